@@ -5,7 +5,7 @@ use Rattle.md_words.specs.declared.shape.Shape.{Shape}
 use Rattle.md_words.specs.Place.{bucket_head}
 use Rattle.md_words.specs.Layout.{address}
 use Rattle.md_history.specs.declared.acts.Op.{Op}
-use Rattle.md_history.specs.declared.acts.Op.TheVariants.{Get, Insert, Remove}
+use Rattle.md_history.specs.declared.acts.Op.TheVariants.{Get, Insert, Remove, Put}
 use Rattle.md_history.specs.declared.acts.Reply.{Reply}
 use Rattle.md_history.specs.declared.acts.Reply.TheVariants.{Value, Flag, Nothing}
 use Rattle.md_history.specs.State.{State, Table}
@@ -42,6 +42,7 @@ abbrev pub IsOnCell : Op → Type 0
 IsOnCell (Get zero zero) = Unit {0}
 IsOnCell (Insert zero zero v) = Unit {0}
 IsOnCell (Remove zero zero) = Unit {0}
+IsOnCell (Put zero zero v) = Unit {0}
 IsOnCell _ = ⊥
 
 -- what an operation replies where this stands in the word, and what it leaves there
@@ -49,11 +50,13 @@ abbrev pub cell_reply : Op → (held : ℕ) → Reply
 cell_reply (Get m k) held = Value (value_held held)
 cell_reply (Insert m k v) held = Flag (is_none (value_held held))
 cell_reply (Remove m k) held = Value (value_held held)
+cell_reply (Put m k v) held = Value (value_held held)
 cell_reply _ held = Nothing
 
 abbrev pub cell_left : Op → (held : ℕ) → ℕ
 cell_left (Insert m k v) zero = suc v
 cell_left (Remove m k) held = 0
+cell_left (Put m k v) held = suc v
 cell_left _ held = held
 
 -- a certificate records the word, and changes nothing

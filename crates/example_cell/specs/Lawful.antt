@@ -12,7 +12,7 @@ use Rattle.md_words.specs.Layout.{address, Exists, IsNode}
 use Rattle.md_words.specs.PlaceAt.{place_at, IsCounted}
 use Rattle.md_words.proofs.Places.{place_at-address, address_below}
 use Rattle.md_history.specs.declared.acts.Op.{Op}
-use Rattle.md_history.specs.declared.acts.Op.TheVariants.{Get, Insert, Remove}
+use Rattle.md_history.specs.declared.acts.Op.TheVariants.{Get, Insert, Remove, Put}
 use Rattle.md_history.specs.declared.acts.Reply.TheVariants.{Value, Flag}
 use Rattle.md_history.specs.State.{State, Table, with_map, answer, after}
 use Rattle.md_machine.specs.declared.certificate.Certificate.{Certificate}
@@ -42,11 +42,23 @@ removed held = fin.same_map nat_cmp_total fin.nat_cmp-IsAntisymmetric _ _ (λ q.
     let b = eq_by_cmp nat_cmp q 0 in
     fin.get-empty nat_cmp q ∙ sym (fin.get-remove nat_cmp_total (table_held held) 0 q ∙ ap (cond b None) (get_held held q) ∙ none_twice b (value_held held)))
 
+-- of two values of a key the last one stands
+last_stands : (b : Bool) (x v : Option ℕ) → cond b x None ≡ cond b x (cond b v None)
+last_stands true x v = refl
+last_stands false x v = refl
+
+replaced : (held x : ℕ) → fin.insert fin.empty 0 x ≡ fin.insert (table_held held) 0 x
+replaced held x = fin.same_map nat_cmp_total fin.nat_cmp-IsAntisymmetric _ _ (λ q.
+    let b = eq_by_cmp nat_cmp q 0 in
+    get_held (suc x) q ∙ last_stands b (Some x) (value_held held)
+    ∙ sym (fin.get-insert nat_cmp_total (table_held held) 0 x q ∙ ap (cond b (Some x)) (get_held held q)))
+
 -- an operation on the cell does what it does on a map with one key
 answers : (op : Op) → IsOnCell op → (held : ℕ) → cell_reply op held ≡ answer (state_held held) op
 answers (Get zero zero) on held = ap Value (sym (get_held held 0))
 answers (Insert zero zero x) on held = ap (λ o. Flag (is_none o)) (sym (get_held held 0))
 answers (Remove zero zero) on held = ap Value (sym (get_held held 0))
+answers (Put zero zero x) on held = ap Value (sym (get_held held 0))
 answers _ on held = absurd on
 
 leaves : (op : Op) → IsOnCell op → (held : ℕ) → state_held (cell_left op held) ≡ after (state_held held) op
@@ -54,6 +66,7 @@ leaves (Get zero zero) on held = refl
 leaves (Insert zero zero x) on zero = ap (λ o. if is_none o then state_held (suc x) else state_held zero) (sym (get_held zero 0))
 leaves (Insert zero zero x) on (suc v) = ap (λ o. if is_none o then with_map (state_held (suc v)) 0 (fin.insert (table_held (suc v)) 0 x) else state_held (suc v)) (sym (get_held (suc v) 0))
 leaves (Remove zero zero) on held = ap (λ (t : Table). with_map (state_held held) 0 t) (removed held)
+leaves (Put zero zero x) on held = ap (λ (t : Table). with_map (state_held held) 0 t) (replaced held x)
 leaves _ on held = absurd on
 
 -- where no node is placed, no fact holds

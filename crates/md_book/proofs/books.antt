@@ -13,3 +13,5 @@ pub mod Replacing
 pub mod Places
 pub mod EmptyBook
 pub mod TheBook
+pub mod Few
+pub mod Room

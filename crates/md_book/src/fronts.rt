@@ -13,7 +13,7 @@ use md_history::{Stop, TxCalls};
 
 /// What a look at a level's front place met.
 #[derive(Clone, Copy, Debug)]
-pub(crate) enum Look {
+pub enum Look {
     /// No place is left.
     Nobody,
     /// A place whose order was cancelled; it was passed.
@@ -34,7 +34,7 @@ impl Side {
     }
 
     /// The map where the accounts that take from this side have their sums.
-    pub(crate) fn taker_sums(self) -> u32
+    pub fn taker_sums(self) -> u32
         ensures { result ≡ taker_sums self }
     {
         match self {
@@ -94,12 +94,7 @@ fn take_from<T: TxCalls>(
 
 /// Looks at the front place. If its order was cancelled, it passes the place. Otherwise it takes
 /// from the order as much as there is, at most `rest`.
-pub(crate) fn look_front<T: TxCalls>(
-    t: &mut T,
-    side: Side,
-    level: u32,
-    rest: u32,
-) -> Result<Look, Stop>
+pub fn look_front<T: TxCalls>(t: &mut T, side: Side, level: u32, rest: u32) -> Result<Look, Stop>
     requires going { T.stop t.old ≡ None }
     requires maps { MAPS ≤ T.maps (T.kept t.old) }
     requires level { level < T.queues (T.kept t.old) }

@@ -23,6 +23,7 @@ mod parts;
 mod place;
 
 pub use commands::{BookReply, Command, Part, Side};
+pub use fronts::{Look, look_front};
 pub use laws::{
     accounts_add_up, commands_are_small, commands_meet_the_book, days_add_up, each_account_adds_up,
     each_order_adds_up, empty_book_stands, fills_add_up, fills_are_few, kills_are_whole,
@@ -34,3 +35,5 @@ pub use limits::{
 };
 pub use maps::{BOUGHT, DEPTHS, LEVELS, MAPS, OPEN_ORDERS, SOLD};
 pub use names::order_name;
+pub use packing::{left_in, level_in, packed};
+pub use parts::raise;

@@ -28,7 +28,7 @@ pub const MAX_QUANTITY: u32 = 1_000_000;
 pub const COMMAND_READS: u32 = 65;
 
 /// The most words that a command writes.
-pub const COMMAND_WRITES: u32 = 112;
+pub const COMMAND_WRITES: u32 = 82;
 
 /// The most nodes that a command takes.
 pub const COMMAND_NODES: u32 = 16;

@@ -7,7 +7,7 @@ use crate::commands::Side;
 use crate::limits::MAX_PRICE;
 
 /// An order's account, side, price and what is left, packed in one number.
-pub(crate) fn packed(account: u32, side: Side, price: u32, left: u32) -> u64
+pub fn packed(account: u32, side: Side, price: u32, left: u32) -> u64
     ensures { result ≡ packed account side price left }
 {
     let side = match side {
@@ -25,7 +25,7 @@ pub(crate) fn account_in(order: u64) -> u64
 }
 
 /// The level of a packed order.
-pub(crate) fn level_in(order: u64) -> u64
+pub fn level_in(order: u64) -> u64
     ensures { result ≡ level_in order }
 {
     let side = order / 0x4000_0000 % 2;
@@ -34,7 +34,7 @@ pub(crate) fn level_in(order: u64) -> u64
 }
 
 /// What a packed order has left.
-pub(crate) fn left_in(order: u64) -> u32
+pub fn left_in(order: u64) -> u32
     ensures { result ≡ left_in order }
 {
     (order % 0x10_0000) as u32

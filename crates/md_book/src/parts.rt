@@ -20,7 +20,7 @@ fn put<T: TxCalls>(t: &mut T, map: u32, key: u64, value: u64) -> Result<(), Stop
 }
 
 /// Adds to a key's value, at most up to the largest number. A key without a value counts as 0.
-pub(crate) fn raise<T: TxCalls>(t: &mut T, map: u32, key: u64, by: u64) -> Result<(), Stop>
+pub fn raise<T: TxCalls>(t: &mut T, map: u32, key: u64, by: u64) -> Result<(), Stop>
     requires going { T.stop t.old ≡ None }
     requires map { map < T.maps (T.kept t.old) }
     ensures plays { PlaysPart (raise map key by) result T.acts T.stop t.old t.new }

@@ -24,6 +24,8 @@ empty_are = record {
       unmarked = refl;
       first = inl refl;
       rises = λ node i. absurd (cc i);
+      rank = λ node. 0;
+      ranks = λ node i. absurd (cc i);
       reached = λ node i. absurd (cc i);
     };
     keys = λ node i. absurd (cc i);

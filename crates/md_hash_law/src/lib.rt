@@ -3,7 +3,7 @@
 //!
 //! What follows:
 //!
-//! - A certificate of Get, Insert or Remove on a key of a map, in the key's bucket, has the
+//! - A certificate of Get, Insert, Remove or Put on a key of a map, in the key's bucket, has the
 //!   operation's reply on the state, and leaves a valid heap with the operation's state.
 //! - An unlink in any bucket leaves a valid heap with the same state.
 //! - Neither takes away a fact on a placed node; words of nodes that aren't placed don't matter.

@@ -4,7 +4,7 @@ use Rattle.std.specs.Prelude.{is_none}
 use Rattle.std.specs.FinMap as fin
 use Rattle.std.proofs.lemmas.List.{length-set}
 use Rattle.md_history.specs.declared.acts.Op.{Op}
-use Rattle.md_history.specs.declared.acts.Op.TheVariants.{Get, Insert, Remove, Enqueue, Dequeue, Front, Line}
+use Rattle.md_history.specs.declared.acts.Op.TheVariants.{Get, Insert, Remove, Put, Enqueue, Dequeue, Front, Line}
 use Rattle.md_history.specs.declared.acts.Reply.{Reply}
 use Rattle.md_history.specs.declared.acts.Act.{Act}
 use Rattle.md_history.specs.State.{State, HaveSameNumbers, run, IsRight, after, answer, map_at}
@@ -24,6 +24,7 @@ length-maps s (Get m k) = refl
 length-maps s (Insert m k v) =
     chosen (is_none (fin.get (map_at s m) k)) _ s (length s.maps) (λ t. length t.maps) (length-set s.maps m _) refl
 length-maps s (Remove m k) = length-set s.maps m _
+length-maps s (Put m k v) = length-set s.maps m _
 length-maps s (Enqueue q v) = refl
 length-maps s (Dequeue q) = refl
 length-maps s (Front q) = refl
@@ -34,6 +35,7 @@ length-queues s (Get m k) = refl
 length-queues s (Insert m k v) =
     chosen (is_none (fin.get (map_at s m) k)) _ s (length s.queues) (λ t. length t.queues) refl refl
 length-queues s (Remove m k) = refl
+length-queues s (Put m k v) = refl
 length-queues s (Enqueue q v) = length-set s.queues q _
 length-queues s (Dequeue q) = length-set s.queues q _
 length-queues s (Front q) = refl

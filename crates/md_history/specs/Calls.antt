@@ -1,7 +1,7 @@
 -- What the calls of a transaction do, answered or refused.
 use Rattle.std.specs.Prelude.{◌≡◌, ◌≤◌, ℕ, List, [], ◌∷◌, ◌++◌, Option, Some, None, unwrap_or, length}
 use Rattle.md_history.specs.declared.acts.Op.{Op}
-use Rattle.md_history.specs.declared.acts.Op.TheVariants.{Get, Insert, Remove, Enqueue, Dequeue, Front, Line}
+use Rattle.md_history.specs.declared.acts.Op.TheVariants.{Get, Insert, Remove, Put, Enqueue, Dequeue, Front, Line}
 use Rattle.md_history.specs.declared.acts.Line.{Line as Values}
 use Rattle.md_history.specs.declared.acts.TheConstants.{MAX_LINE}
 use Rattle.md_history.specs.declared.acts.Reply.{Reply}
@@ -49,6 +49,7 @@ MayReply (Insert m k v) (Flag b) = Unit {0}
 MayReply (Enqueue q v) Nothing = Unit {0}
 MayReply (Get m k) (Value v) = Unit {0}
 MayReply (Remove m k) (Value v) = Unit {0}
+MayReply (Put m k v) (Value o) = Unit {0}
 MayReply (Dequeue q) (Value v) = Unit {0}
 MayReply (Front q) (Value v) = Unit {0}
 MayReply (Line q n) (TheLine l) = IsLineOf n l

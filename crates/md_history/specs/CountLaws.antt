@@ -1,5 +1,5 @@
 -- Laws of counts: more acts count no less, and what two lists count bounds what both together do.
-use Rattle.std.specs.Prelude.{◌≡◌, ◌≤◌, ◌+◌, ℕ, Bool, true, false, cond, Option, List, [], ◌∷◌, ◌++◌, length, ◌||◌, nat_eq}
+use Rattle.std.specs.Prelude.{◌≡◌, ◌≤◌, ◌+◌, ℕ, Bool, true, false, cond, Option, Some, List, [], ◌∷◌, ◌++◌, length, ◌||◌, nat_eq}
 use Rattle.std.specs.List.{filter_map, list_any, count_by, sum_by}
 use Rattle.std.specs.Cmp.{IsEquivalence}
 use Rattle.std.proofs.Common.{sym, ap, subst, ◌∙◌, arith, inl, inr}
@@ -9,8 +9,12 @@ use Rattle.std.proofs.lemmas.List.Sums.{sum_by-append}
 use Rattle.std.proofs.lemmas.List.Elements.{filter_map-append}
 use Rattle.std.proofs.lemmas.Map.Steps.{list_any_congr}
 use Rattle.md_history.specs.declared.acts.Act.{Act}
+use Rattle.md_history.specs.declared.acts.Op.{Op}
+use Rattle.md_history.specs.declared.acts.Op.TheVariants.{Insert, Remove, Put}
+use Rattle.md_history.specs.declared.acts.Reply.{Reply}
+use Rattle.md_history.specs.declared.acts.Reply.TheVariants.{Value, Flag}
 use Rattle.md_history.specs.State.{State}
-use Rattle.md_history.specs.Counts.{Bounds, AllowAll, IsSmall, different_beside, different, same_key, changed_nothing, changed_key, asked_queue, changed_queue, dequeued, line_words, added, reads, writes, nodes, AreFew}
+use Rattle.md_history.specs.Counts.{Bounds, AllowAll, IsSmall, different_beside, different, same_key, named_key, changed_nothing, changed_key, asked_queue, changed_queue, dequeued, line_words, added, reads, writes, nodes, AreFew}
 
 -- counts of acts that pass a test add up
 pub count-append : {A : Type 0} (p : A → Bool) (xs ys : List A) → count_by p (xs ++ ys) ≡ count_by p xs + count_by p ys
@@ -87,6 +91,13 @@ module _ {A : Type 0} {eq : A → A → Bool} (laws : IsEquivalence eq) where
 pub same_key_equiv : IsEquivalence same_key
 same_key_equiv = and_equiv (on_equiv (λ (k : ℕ × ℕ). k.0) nat_eq_equiv) (on_equiv (λ (k : ℕ × ℕ). k.1) nat_eq_equiv)
 
+-- a key that an operation changed is the one that it named
+pub changed-named : (op : Op) (r : Reply) (key : ℕ × ℕ) → changed_key op r ≡ Some key → named_key op ≡ Some key
+changed-named (Insert m k v) (Flag true) key is = is
+changed-named (Remove m k) (Value (Some v)) key is = is
+changed-named (Put m k v) r key is = is
+changed-named _ _ key is = absurd (cc is)
+
 -- the elements that acts name, as a test or a limit counts them
 module _ {A : Type 0} (eq : A → A → Bool) (named : Act → Option A) (xs ys : List Act) where
   named-prefix : different eq (filter_map named xs) ≤ different eq (filter_map named (xs ++ ys))
@@ -119,7 +130,7 @@ module _ (xs ys : List Act) where
 
   pub writes-append : writes (xs ++ ys) ≤ writes xs + writes ys
   writes-append =
-      omega (arith, changed_nothing-append, nodes-append, named-append same_key (λ (a : Act). changed_key a.op a.reply) xs ys same_key_equiv, named-append nat_eq (λ (a : Act). changed_queue a.op a.reply) xs ys nat_eq_equiv)
+      omega (arith, nodes-append, named-append same_key (λ (a : Act). named_key a.op) xs ys same_key_equiv, named-append same_key (λ (a : Act). changed_key a.op a.reply) xs ys same_key_equiv, named-append nat_eq (λ (a : Act). changed_queue a.op a.reply) xs ys nat_eq_equiv)
 
   -- acts that begin others count no more than all of them
   pub nodes-prefix : nodes xs ≤ nodes (xs ++ ys)
@@ -131,7 +142,7 @@ module _ (xs ys : List Act) where
 
   pub writes-prefix : writes xs ≤ writes (xs ++ ys)
   writes-prefix =
-      omega (arith, changed_nothing-append, nodes-append, named-prefix same_key (λ (a : Act). changed_key a.op a.reply) xs ys, named-prefix nat_eq (λ (a : Act). changed_queue a.op a.reply) xs ys)
+      omega (arith, nodes-append, named-prefix same_key (λ (a : Act). named_key a.op) xs ys, named-prefix same_key (λ (a : Act). changed_key a.op a.reply) xs ys, named-prefix nat_eq (λ (a : Act). changed_queue a.op a.reply) xs ys)
 
   pub few-prefix : (most : Bounds) → AreFew most (xs ++ ys) → AreFew most xs
   few-prefix most few =

@@ -2,11 +2,19 @@
 use Rattle.std.specs.Prelude.{ℕ, ◌+◌, ◌*◌, ◌≤◌, ◌==◌, ◌&&◌, nat_eq, Bool, true, false, if◌then◌else◌, List, [], ◌∷◌, Option, Some, None}
 use Rattle.std.specs.List.{filter_map, list_any, count_by, sum_by}
 use Rattle.md_history.specs.declared.acts.Op.{Op}
-use Rattle.md_history.specs.declared.acts.Op.TheVariants.{Get, Insert, Remove, Enqueue, Dequeue, Front, Line}
+use Rattle.md_history.specs.declared.acts.Op.TheVariants.{Get, Insert, Remove, Put, Enqueue, Dequeue, Front, Line}
 use Rattle.md_history.specs.declared.acts.Reply.{Reply}
 use Rattle.md_history.specs.declared.acts.Reply.TheVariants.{Value, Flag}
 use Rattle.md_history.specs.declared.acts.Act.{Act}
 use Rattle.md_history.specs.State.{State, IsRight}
+
+-- the map and the key of an operation on a map
+abbrev pub named_key : Op → Option (ℕ × ℕ)
+named_key (Get m k) = Some (m, k)
+named_key (Insert m k v) = Some (m, k)
+named_key (Remove m k) = Some (m, k)
+named_key (Put m k v) = Some (m, k)
+named_key op = None
 
 -- an operation on a map that changed nothing
 abbrev pub changed_nothing : Op → Reply → Bool
@@ -19,6 +27,7 @@ changed_nothing op r = false
 abbrev pub changed_key : Op → Reply → Option (ℕ × ℕ)
 changed_key (Insert m k v) (Flag true) = Some (m, k)
 changed_key (Remove m k) (Value (Some v)) = Some (m, k)
+changed_key (Put m k v) r = Some (m, k)
 changed_key op r = None
 
 -- the queue whose first values an operation asked for
@@ -45,9 +54,10 @@ abbrev pub line_words : Op → ℕ
 line_words (Line q n) = n + 1
 line_words op = 0
 
--- a pair or a value was added
+-- a pair or a value was added, or a value was set
 abbrev pub added : Op → Reply → Bool
 added (Insert m k v) (Flag true) = true
+added (Put m k v) r = true
 added (Enqueue q v) r = true
 added op r = false
 
@@ -75,17 +85,18 @@ reads acts =
     + count_by (λ a. dequeued a.op a.reply) acts
     + sum_by (λ a. line_words a.op) acts
 
--- the nodes that acts take: one for each pair or value that was added
+-- the nodes that acts take: one for each pair or value that was added, and for each value that was set
 abbrev pub nodes : List Act → ℕ
 nodes acts = count_by (λ a. added a.op a.reply) acts
 
--- the words that acts write at most: two for each key of a map that changed, three for each queue that changed, one for
--- each operation on a map that changed nothing, which may meet what another left to be tidied, and one for each node
+-- the words that acts write at most: two for each key of a map that changed, and one for each other key that was looked
+-- up, at which another may have left something to be tidied (so one for each key, and one more if it changed); three for
+-- each queue that changed; and one for each node
 abbrev pub writes : List Act → ℕ
 writes acts =
-    2 * different same_key (filter_map (λ a. changed_key a.op a.reply) acts)
+    different same_key (filter_map (λ a. named_key a.op) acts)
+    + different same_key (filter_map (λ a. changed_key a.op a.reply) acts)
     + 3 * different nat_eq (filter_map (λ a. changed_queue a.op a.reply) acts)
-    + count_by (λ a. changed_nothing a.op a.reply) acts
     + nodes acts
 
 -- how many words a transaction may read and write, and how many nodes it may take
@@ -112,4 +123,4 @@ pub record AllowAll (most more : Bounds) : Type 0 where
 
 -- bounds that so many calls keep to, if none of them looks at a line
 abbrev pub bounds_of_calls : ℕ → Bounds
-bounds_of_calls n = record { reads = 4 * n; writes = 7 * n; nodes = n }
+bounds_of_calls n = record { reads = 4 * n; writes = 4 * n; nodes = n }

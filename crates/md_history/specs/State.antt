@@ -4,7 +4,7 @@ use Rattle.std.specs.Ordering.{nat_cmp}
 use Rattle.std.specs.FinMap as fin
 use Rattle.std.specs.Coded.{Coded, code_by, coded×, coded_ℕ, coded_list}
 use Rattle.md_history.specs.declared.acts.Op.{Op}
-use Rattle.md_history.specs.declared.acts.Op.TheVariants.{Get, Insert, Remove, Enqueue, Dequeue, Front, Line}
+use Rattle.md_history.specs.declared.acts.Op.TheVariants.{Get, Insert, Remove, Put, Enqueue, Dequeue, Front, Line}
 use Rattle.md_history.specs.declared.acts.Line.{Line as Values}
 use Rattle.md_history.specs.declared.acts.TheConstants.{MAX_LINE}
 use Rattle.md_history.specs.declared.acts.Reply.{Reply}
@@ -63,6 +63,7 @@ abbrev pub answer : State → Op → Reply
 answer s (Get m k) = Value (fin.get (map_at s m) k)
 answer s (Insert m k v) = Flag (is_none (fin.get (map_at s m) k))
 answer s (Remove m k) = Value (fin.get (map_at s m) k)
+answer s (Put m k v) = Value (fin.get (map_at s m) k)
 answer s (Enqueue q v) = Nothing
 answer s (Dequeue q) = Value (slice_get (queue_at s q) 0)
 answer s (Front q) = Value (slice_get (queue_at s q) 0)
@@ -73,6 +74,7 @@ abbrev pub after : State → Op → State
 after s (Get m k) = s
 after s (Insert m k v) = if is_none (fin.get (map_at s m) k) then with_map s m (fin.insert (map_at s m) k v) else s
 after s (Remove m k) = with_map s m (fin.remove (map_at s m) k)
+after s (Put m k v) = with_map s m (fin.insert (map_at s m) k v)
 after s (Enqueue q v) = with_queue s q (queue_at s q ++ v ∷ [])
 after s (Dequeue q) = with_queue s q (drop 1 (queue_at s q))
 after s (Front q) = s

@@ -17,6 +17,8 @@ pub enum Op {
     Insert { map: u32, key: u64, value: u64 },
     /// Removes a key with its value.
     Remove { map: u32, key: u64 },
+    /// Sets a key's value: it replaces the one that the key has, or adds the key.
+    Put { map: u32, key: u64, value: u64 },
     /// Appends a value.
     Enqueue { queue: u32, value: u64 },
     /// Removes the first value.
@@ -43,8 +45,8 @@ pub struct Line {
 /// What an operation replies.
 #[derive(Clone, Copy, Debug, PartialEq, Eq)]
 pub enum Reply {
-    /// Of `Get` and `Remove`: the value of the key; of `Dequeue` and `Front`: the first value.
-    /// `None` if there is none.
+    /// Of `Get`, `Remove` and `Put`: the value that the key had; of `Dequeue` and `Front`: the first
+    /// value. `None` if there was none.
     Value(Option<u64>),
     /// Of `Insert`: whether the key was absent, so that it was added.
     Flag(bool),

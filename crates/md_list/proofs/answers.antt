@@ -4,4 +4,5 @@ pub mod Getting
 pub mod FoundOn
 pub mod Removing
 pub mod Inserting
+pub mod Replacing
 pub mod Answered

@@ -77,14 +77,14 @@ abbrev pub RecordsAmong : (t u : TxnState) → Certificate → Type 0
 RecordsAmong t u c = (r : Read) → Contains u.reads r → Contains t.reads r ⊎ Contains (map (λ x. x.word) c.recorded) r.word
 
 -- an operation on a key of a map may be ended with the reply, after ended operations with these certificates: by a
--- certificate of its row in the table of lists, whose unlinks are charged. It records few words, and each that was
--- recorded since the operation began
+-- certificate of its row in the table of lists, whose unlinks are charged as the operation began. It records few words,
+-- and each that was recorded since then
 pub record IsAnswered (M : Meaning) (t u : TxnState) (cs : List Certificate) (map key : ℕ) (op : Op) (reply : Reply) : Type 0 where
   pub certificate : Certificate
   pub of : IsOfAct op reply certificate
   pub may : MayEnd M u cs certificate
   pub row : IsMapCertificate (shape_in u) map key certificate
-  pub charged : AreCharged u (all_changes cs) certificate.tidy
+  pub charged : AreCharged t (all_changes cs) certificate.tidy
   pub few : RecordsFew certificate
   pub recorded : RecordsAmong t u certificate
 

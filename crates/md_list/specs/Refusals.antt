@@ -138,3 +138,7 @@ module _ (M : Meaning) (t : TxnState) (head : ℕ) where
   -- a node: none was taken, and the key is absent
   abbrev pub NeedsNode : (key : ℕ) → TxnState → Type 0
   NeedsNode key u = (u.nodes ≡ t.nodes) × NeedsFor M t head key (λ map cs. IsAbsent M u cs map key)
+
+-- a node for an operation that takes one in any case: none was taken
+abbrev pub NeedsNewNode : (t u : TxnState) → Type 0
+NeedsNewNode t u = u.nodes ≡ t.nodes

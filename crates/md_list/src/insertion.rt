@@ -12,29 +12,29 @@ ghost use Rattle.md_list.specs.Operations.{Answers, HasStop, IsBegun, OperationG
 ghost use Rattle.md_list.specs.Refusals.{NeedsNode, NeedsRead, NeedsSlot, RefusedBy};
 ghost use Rattle.md_list.specs.Walking.{IsHeadOf};
 
-use crate::walk::{Found, find};
+use crate::walk::find;
 use md_history::Stop;
 use md_list_law::HasLists;
 use md_machine::Theory;
 use md_nbtc::{Kind, Txn};
 
-// Takes a node for a key. It names the node that the word before the key's place names.
+// Takes a node for a key, with the value of its next word.
 #[inline(always)]
-fn take_node<'a, T: Theory>(
+pub(crate) fn take_node<'a, T: Theory>(
     tx: &mut Txn<'a, T>,
     key: u64,
     value: u64,
-    found: Found,
+    next: u32,
 ) -> Result<u32, Stop>
     requires going { IsUnderWay T.meaning (state tx.old) }
     requires operates { (state tx.old).hand.operating ≡ true }
     ensures pass { tx.new.pass.ghost_name ≡ tx.old.pass.ghost_name }
     ensures on { GoesOn T.meaning (state tx.old) (state tx.new) }
     ensures fresh { AfterStop (state tx.old).stop (state tx.old) (state tx.new) result
-        (Freshened (state tx.old) (state tx.new) key value found.at.value result) }
+        (Freshened (state tx.old) (state tx.new) key value next result) }
     ensures given { FreshKeepsGiven (state tx.old) (state tx.new) result }
 {
-    tx.fresh(key, value, found.at.value)
+    tx.fresh(key, value, next)
 }
 
 /// Inserts a key with a value into a map if the key isn't there, and returns whether it was absent,
@@ -99,7 +99,7 @@ pub fn insert<'a, T: HasLists>(
         tx.note(next_word, found.next)?;
         return Ok(false);
     }
-    let node = take_node(tx, key, value, found)?;
+    let node = take_node(tx, key, value, found.at.value)?;
     tx.exchange(found.prev, found.at, node * 2, Kind::Critical)?;
     Ok(true)
 }

@@ -50,7 +50,8 @@ pub struct Found {
 /// It takes one load of the head. For each node that stands, it takes one load of its next word,
 /// and one step for its key. For each removed node, it takes one load of its next word and one
 /// exchange. The exchange takes one step if it is plain or if its word is an own one, and otherwise
-/// four. Keys rise from node to node, so no node is met twice. It takes no memory.
+/// four. Keys don't fall from node to node, and of nodes with one key each names a later one, so no
+/// node is met twice. It takes no memory.
 ///
 /// After M. M. Michael, "High Performance Dynamic Lock-Free Hash Tables and List-Based Sets"
 /// (2002). It differs from Michael's find in three ways. It doesn't start again after a lost
@@ -72,7 +73,7 @@ pub fn find<'a, T: HasLists>(tx: &mut Txn<'a, T>, head: u32, key: u64) -> Result
 {
     let mut prev = head;
     let mut at = tx.load(prev)?;
-    // Keys rise from node to node, so none is met twice, and there are no more turns than nodes.
+    // No node is met twice, so there are no more turns than nodes.
     for _ in 0..u32::MAX {
         let node = at.value / 2;
         if node == 0 {

@@ -1,4 +1,4 @@
--- What a walk along rising keys passes: nodes of the list, each once, in the order of their keys.
+-- What a walk along rising keys passes: nodes of the list, each once, in the order of their keys and ranks.
 use Rattle.std.proofs.Common.{◌≡◌, ℕ, zero, suc, ◌+◌, ◌≢◌, ◌<◌, ◌≤◌, false, List, [], ◌∷◌, length, eqb, sym, ap, ◌∙◌, subst, inl, inr, ⊎_elim, ne_eqb, arith}
 use Rattle.std.specs.List.{Contains, AllByRecursion, IsDistinct}
 use Rattle.std.proofs.lemmas.Bool.{cases_eq, eqb-true}
@@ -6,13 +6,14 @@ use Rattle.std.proofs.lemmas.List.Elements.{Contains-get_or, recursion_from_All}
 use Rattle.std.proofs.lemmas.Map.Keys.{IsDistinct-cons}
 use Rattle.std.proofs.lemmas.Map.Steps.{length-le_from_distinct_below}
 use Rattle.std.proofs.lemmas.Map.Views.{Contains-from_any}
-use Rattle.md_words.specs.Link.{linked_node}
+use Rattle.md_words.specs.Link.{linked_node, is_marked}
 use Rattle.md_words.specs.Layout.{IsNode, node_count}
 use Rattle.md_machine.specs.declared.node.Structure.{Structure}
 use Rattle.md_machine.specs.LogicalHeap.{LogicalHeap, next_of}
 use Rattle.md_machine.proofs.lists.Rising.{in_none, in_cons}
 use Rattle.md_list_law.specs.Walk.{walk}
-use Rattle.md_list_law.specs.ListShape.{IsIn, Names, NamesAbove}
+use Rattle.md_list_law.specs.ListShape.{IsIn, IsRank, Names, NamesAbove, NamesAfter, NamesOnward, Precedes}
+use Rattle.md_list_law.proofs.Order.{above_onward, above_unmarked, after_over, onward_least, onward_names, precedes_itself}
 use Rattle.md_list_law.proofs.Walks.{Reaches, walk-none, walk-some, passes, walk_first, walk_later}
 
 -- what holds of each element
@@ -23,15 +24,14 @@ none_distinct : IsDistinct eqb []
 unfolding IsDistinct
 none_distinct = tt
 
--- nodes of a list along whose next words keys rise
+-- nodes of a list along whose next words keys rise, with their ranks
 pub record Rises (h : LogicalHeap) (list : Structure) : Type 0 where
   pub nodes : (node : ℕ) → IsIn h list node → IsNode h.words.shape node
-  pub rises : (node : ℕ) → IsIn h list node → NamesAbove h list (h.words.key_of node) (next_of h.words node)
+  pub rises : (node : ℕ) → IsIn h list node → NamesOnward h list (h.words.key_of node) (next_of h.words node)
+  pub rank : ℕ → ℕ
+  pub ranks : IsRank h list rank
 
 module _ (h : LogicalHeap) (list : Structure) (r : Rises h list) where
-  pub names_above : (key value : ℕ) → NamesAbove h list key value → Names h list value
-  names_above key value = ⊎_elim inl (λ t. inr t.0)
-
   -- it is not null
   pub not_null : (node : ℕ) → IsIn h list node → node ≢ 0
   not_null node i e = let positive = (r.nodes node i).0 in omega (arith, positive, e)
@@ -41,7 +41,7 @@ module _ (h : LogicalHeap) (list : Structure) (r : Rises h list) where
 
   -- the next word of a named node
   onward : (value : ℕ) → Names h list value → linked_node value ≢ 0
-      → NamesAbove h list (h.words.key_of (linked_node value)) (next_of h.words (linked_node value))
+      → NamesOnward h list (h.words.key_of (linked_node value)) (next_of h.words (linked_node value))
   onward value n ne = r.rises (linked_node value) (named value n ne)
 
   -- a walk passes nodes of the list
@@ -49,8 +49,11 @@ module _ (h : LogicalHeap) (list : Structure) (r : Rises h list) where
   walked zero value node s c = absurd (in_none node c)
   walked (suc n) value node s c = let p = passes h.words n value node c in ⊎_elim
       (λ e. subst (IsIn h list) e (named value s p.some))
-      (λ later. walked n (next_of h.words (linked_node value)) node (names_above _ _ (onward value s p.some)) later)
+      (λ later. walked n (next_of h.words (linked_node value)) node (onward_names h list _ _ (onward value s p.some)) later)
       p.here_or_later
+
+  named_above : (key value : ℕ) → NamesAbove h list key value → Names h list value
+  named_above key value = ⊎_elim inl (λ t. inr t.0)
 
   -- of keys that rise
   pub walked_above : (n key value node : ℕ) → NamesAbove h list key value → Contains (walk h.words n value) node → key < h.words.key_of node
@@ -59,27 +62,57 @@ module _ (h : LogicalHeap) (list : Structure) (r : Rises h list) where
       let above : key < h.words.key_of (linked_node value) = ⊎_elim (λ none. absurd (p.some none)) (λ t. t.1) s in
       ⊎_elim
       (λ e. subst (λ x. key < h.words.key_of x) e above)
-      (λ later. let more = walked_above n (h.words.key_of (linked_node value)) (next_of h.words (linked_node value)) node
-      (onward value (names_above key value s) p.some) later in omega (arith, above, more))
+      (λ later. walked_above n key (next_of h.words (linked_node value)) node
+      (above_onward h list (h.words.key_of (linked_node value)) (next_of h.words (linked_node value)) key above (onward value (named_above key value s) p.some)) later)
       p.here_or_later
 
-  -- two nodes that it passes are one, if their keys are equal
+  -- or don't fall
+  walked_onward : (n key value node : ℕ) → NamesOnward h list key value → Contains (walk h.words n value) node → key ≤ h.words.key_of node
+  walked_onward zero key value node s c = absurd (in_none node c)
+  walked_onward (suc n) key value node s c = let p = passes h.words n value node c in
+      let least : key ≤ h.words.key_of (linked_node value) = ⊎_elim (λ none. absurd (p.some none)) (λ t. onward_least (is_marked value) key _ t.1) s in
+      ⊎_elim
+      (λ e. subst (λ x. key ≤ h.words.key_of x) e least)
+      (λ later. let more = walked_onward n (h.words.key_of (linked_node value)) (next_of h.words (linked_node value)) node
+      (onward value (onward_names h list key value s) p.some) later in omega (arith, least, more))
+      p.here_or_later
+
+  -- and a node before all of them comes before each
+  walked_past : (n x value node : ℕ) → Names h list value → NamesAfter h r.rank x value → Contains (walk h.words n value) node → Precedes h r.rank x node
+  walked_past zero x value node s a c = absurd (in_none node c)
+  walked_past (suc n) x value node s a c = let p = passes h.words n value node c in
+      let first : Precedes h r.rank x (linked_node value) = ⊎_elim (λ none. absurd (p.some none)) (λ q. q) a in
+      let next = next_of h.words (linked_node value) in
+      ⊎_elim
+      (λ e. subst (Precedes h r.rank x) e first)
+      (λ later. walked_past n x next node (onward_names h list _ _ (onward value s p.some))
+      (after_over h r.rank x (linked_node value) next first (r.ranks (linked_node value) (named value s p.some))) later)
+      p.here_or_later
+
+  -- past an unmarked node keys rise
+  unmarked_above : (value a : ℕ) → Names h list value → linked_node value ≢ 0 → linked_node value ≡ a → is_marked (next_of h.words a) ≡ false
+      → NamesAbove h list (h.words.key_of (linked_node value)) (next_of h.words (linked_node value))
+  unmarked_above value a s some first plain = above_unmarked h list (h.words.key_of (linked_node value)) (next_of h.words (linked_node value))
+      (ap (λ x. is_marked (next_of h.words x)) first ∙ plain) (onward value s some)
+
+  -- two unmarked nodes that it passes are one, if their keys are equal
   pub same_key : (n value a b : ℕ) → Names h list value → Contains (walk h.words n value) a → Contains (walk h.words n value) b
-      → h.words.key_of a ≡ h.words.key_of b → a ≡ b
-  same_key zero value a b s c d e = absurd (in_none a c)
-  same_key (suc n) value a b s c d e =
+      → is_marked (next_of h.words a) ≡ false → is_marked (next_of h.words b) ≡ false → h.words.key_of a ≡ h.words.key_of b → a ≡ b
+  same_key zero value a b s c d plain_a plain_b e = absurd (in_none a c)
+  same_key (suc n) value a b s c d plain_a plain_b e =
       let p = passes h.words n value a c in
       let q = passes h.words n value b d in
       let next = next_of h.words (linked_node value) in
-      let on = onward value s p.some in
       ⊎_elim
       (λ first. ⊎_elim
       (λ second. sym first ∙ second)
-      (λ later. let more = walked_above n (h.words.key_of (linked_node value)) next b on later in absurd (omega (arith, more, e, ap h.words.key_of first)))
+      (λ later. let more = walked_above n (h.words.key_of (linked_node value)) next b (unmarked_above value a s p.some first plain_a) later in
+      absurd (omega (arith, more, e, ap h.words.key_of first)))
       q.here_or_later)
       (λ later. ⊎_elim
-      (λ second. let more = walked_above n (h.words.key_of (linked_node value)) next a on later in absurd (omega (arith, more, e, ap h.words.key_of second)))
-      (λ also. same_key n next a b (names_above _ _ on) later also e)
+      (λ second. let more = walked_above n (h.words.key_of (linked_node value)) next a (unmarked_above value b s p.some second plain_b) later in
+      absurd (omega (arith, more, e, ap h.words.key_of second)))
+      (λ also. same_key n next a b (onward_names h list _ _ (onward value s p.some)) later also plain_a plain_b e)
       q.here_or_later)
       p.here_or_later
 
@@ -98,8 +131,8 @@ module _ (h : LogicalHeap) (list : Structure) (r : Rises h list) where
       (λ later. (n, subst (λ x. Contains (walk h.words n (next_of h.words x)) b) first later))
       q.here_or_later)
       (λ later. ⊎_elim
-      (λ second. let more = walked_above n (h.words.key_of (linked_node value)) next a on later in absurd (omega (arith, less, more, ap h.words.key_of second)))
-      (λ also. reached_from n next a b (names_above _ _ on) later also less)
+      (λ second. let more = walked_onward n (h.words.key_of (linked_node value)) next a on later in absurd (omega (arith, less, more, ap h.words.key_of second)))
+      (λ also. reached_from n next a b (onward_names h list _ _ on) later also less)
       q.here_or_later)
       p.here_or_later
 
@@ -112,9 +145,9 @@ module _ (h : LogicalHeap) (list : Structure) (r : Rises h list) where
       subst (IsDistinct eqb) (sym (walk-some h.words n value some))
       (IsDistinct-cons eqb (linked_node value) (walk h.words n next)
       (all_from (λ y. eqb (linked_node value) y ≡ false) (walk h.words n next)
-      (λ y c. let more = walked_above n (h.words.key_of (linked_node value)) next y on c in
-      ne_eqb (linked_node value) y (λ e. omega (arith, more, ap h.words.key_of e))))
-      (walk_distinct n next (names_above _ _ on))))
+      (λ y c. let later = walked_past n (linked_node value) next y (onward_names h list _ _ on) (r.ranks (linked_node value) (named value s some)) c in
+      ne_eqb (linked_node value) y (λ e. precedes_itself h r.rank y (subst (λ x. Precedes h r.rank x y) e later))))
+      (walk_distinct n next (onward_names h list _ _ on))))
       (cases_eq (linked_node value) 0)
 
   -- so a walk passes no more nodes than there are

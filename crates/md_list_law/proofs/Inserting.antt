@@ -1,237 +1,44 @@
--- A new node in a gap adds its pair to the list.
-use Rattle.std.proofs.Common.{◌≡◌, ℕ, ◌≢◌, ◌<◌, ◌⊎◌, false, cond, Some, None, refl, sym, ap, ◌∙◌, subst, inl, inr, ⊎_elim, arith}
-use Rattle.std.specs.Ordering.{nat_cmp, eq_by_cmp}
-use Rattle.std.specs.FinMap as fin
-use Rattle.std.proofs.lemmas.Bool.{both_ways, cases_eq}
-use Rattle.md_words.specs.Link.{link_value, linked_node, is_marked}
-use Rattle.md_words.specs.Layout.{IsNode, node_count}
+-- A new node enters the list in a gap, and adds its pair.
+use Rattle.std.proofs.Common.{◌≡◌, ℕ, ◌<◌, false, None, refl, sym, ap, ◌∙◌, subst, inl, inr, ⊎_elim}
+use Rattle.std.proofs.lemmas.Bool.{cases_eq}
+use Rattle.md_words.specs.Link.{link_value, is_marked}
+use Rattle.md_words.specs.Layout.{IsNode}
 use Rattle.md_words.proofs.Words.{linked_node-link_value, is_marked-link_value}
 use Rattle.md_machine.specs.declared.node.Structure.{Structure}
-use Rattle.md_machine.specs.declared.certificate.Change.{Change}
-use Rattle.md_machine.specs.declared.certificate.NewNode.{NewNode}
-use Rattle.md_machine.specs.LogicalHeap.{LogicalHeap, next_of, changed, after_node, IsPlaced}
-use Rattle.md_list_law.specs.Walk.{pairs_from}
-use Rattle.md_list_law.specs.ListShape.{next_word, IsIn, IsList, Names, NamesAbove}
+use Rattle.md_machine.specs.LogicalHeap.{LogicalHeap}
+use Rattle.md_list_law.specs.ListShape.{next_word, IsIn, IsList, NamesAbove}
 use Rattle.md_list_law.specs.Gaps.{IsGap}
-use Rattle.md_list_law.proofs.Keys.{same_ties, apart_ties}
 use Rattle.md_list_law.proofs.Links.{next_words_differ}
-use Rattle.md_list_law.proofs.Walks.{Reaches, reaches_first, reaches_later, reaches_on}
-use Rattle.md_list_law.proofs.Chains.{Rises, not_null}
-use Rattle.md_list_law.proofs.Pairs.{HasPair, rises_of, pair-found}
-use Rattle.md_list_law.proofs.Puts.{put_same, put_other, changed_or_same}
-use Rattle.md_list_law.proofs.ListKept.{Extends, names_kept, above_kept, reach_kept, list_again, finds_same}
-use Rattle.md_list_law.proofs.Elsewhere.{ChangesOnly, IsNoNext}
-use Rattle.md_list_law.proofs.Changing.{after_change}
+use Rattle.md_list_law.proofs.Elsewhere.{IsNoNext}
+use Rattle.md_list_law.proofs.Entering.{Enters}
 
-module _ (h : LogicalHeap) (list : Structure) (head : ℕ) (is : IsList h list head) (apart : IsNoNext h.words.shape head) (c : Change) (n : NewNode)
-    (gap : IsGap h list head n.key c.word) (stands : h.words.value c.word ≡ c.old) (new : c.new ≡ link_value n.node false)
-    (is_node : IsNode h.words.shape n.node) (fresh : h.placed n.node ≡ None) (structure : n.structure ≡ list) (next : n.next ≡ c.old) where
-  rise : Rises h list
-  rise = rises_of h list head is
-
-  -- a placed node is another than the new one
-  other_node : (node : ℕ) → IsPlaced h node → node ≢ n.node
-  other_node node placed e = let i = placed.1 in absurd (cc (ap h.placed e, i, fresh))
-
-  abbrev with_new : LogicalHeap
-  with_new = after_node (after_change h c) n
-
-  placed_before : (node : ℕ) → node ≢ n.node → with_new.placed node ≡ h.placed node
-  placed_before node ne = put_other h.placed n.node (Some n.structure) node ne
-
-  placed_now : with_new.placed n.node ≡ Some list
-  placed_now = put_same h.placed n.node (Some n.structure) n.node refl ∙ ap (λ (s : Structure). Some s) structure
-
-  key_now : with_new.words.key_of n.node ≡ n.key
-  key_now = put_same h.words.key_of n.node n.key n.node refl
-
-  next_now : next_of with_new.words n.node ≡ c.old
-  next_now = put_same (changed h.words c).value (next_word h.words.shape n.node) n.next (next_word h.words.shape n.node) refl ∙ next
-
-  extends : Extends h with_new list
-  extends = record {
-    grows = λ node i. placed_before node (other_node node (list, i)) ∙ i;
-    key_of = λ node i. put_other h.words.key_of n.node n.key node (other_node node (list, i));
-    value_of_node = λ node i. put_other h.words.value_of_node n.node n.value node (other_node node (list, i));
-  }
-
-  new_names : linked_node c.new ≡ n.node
-  new_names = ap linked_node new ∙ linked_node-link_value n.node false
-
-  new_plain : is_marked c.new ≡ false
-  new_plain = ap is_marked new ∙ is_marked-link_value n.node false
-
-  old_plain : is_marked c.old ≡ false
-  old_plain = ap is_marked (sym stands) ∙ gap.unmarked
-
-  some_node : n.node ≢ 0
-  some_node e = let positive = is_node.0 in omega (arith, positive, e)
-
-  -- of a node that was there the next word isn't the new node's
-  next_apart : (node : ℕ) → IsIn h list node → next_word h.words.shape node ≢ next_word h.words.shape n.node
-  next_apart node i = next_words_differ h.words.shape node n.node (is.nodes node i) is_node (other_node node (list, i))
-
-  -- a word that isn't the new node's is the changed one, or as it was
-  pub record IsGapWord (u : ℕ) : Type 0 where
-    pub here : u ≡ c.word
-    pub was : h.words.value u ≡ c.old
-    pub now : with_new.words.value u ≡ c.new
-
-  gap_or_same : (u : ℕ) → u ≢ next_word h.words.shape n.node → IsGapWord u ⊎ (with_new.words.value u ≡ h.words.value u)
-  gap_or_same u ne =
-      let e : with_new.words.value u ≡ (changed h.words c).value u = put_other (changed h.words c).value (next_word h.words.shape n.node) n.next u ne in ⊎_elim
-      (λ at. inl (record { here = at.here; was = at.old; now = e ∙ at.new }))
-      (λ other. inr (e ∙ other.1))
-      (changed_or_same h.words c u stands)
-
-  in_either : (node : ℕ) → IsIn with_new list node → (node ≡ n.node) ⊎ IsIn h list node
-  in_either node i = ⊎_elim inl (λ ne. inr (sym (placed_before node ne) ∙ i)) (cases_eq node n.node)
-
-  above_new : NamesAbove with_new list n.key c.old
-  above_new = above_kept h with_new list extends n.key c.old (subst (NamesAbove h list n.key) stands gap.before)
-
+module _ (h : LogicalHeap) (list : Structure) (head : ℕ) (is : IsList h list head) (apart : IsNoNext h.words.shape head) where
   -- the node before the gap has a smaller key
-  key_before : (node : ℕ) → IsIn h list node → next_word h.words.shape node ≡ c.word → h.words.key_of node < n.key
-  key_before node i e = ⊎_elim
+  key_before : (key word : ℕ) → IsGap h list head key word → (node : ℕ) → IsIn h list node → next_word h.words.shape node ≡ word → h.words.key_of node < key
+  key_before key word gap node i e = ⊎_elim
       (λ at_head. absurd (apart node (is.nodes node i) (e ∙ at_head)))
       (λ t. ⊎_elim
-      (λ same. subst (λ m. h.words.key_of m < n.key) (sym same) t.2)
+      (λ same. subst (λ m. h.words.key_of m < key) (sym same) t.2)
       (λ ne. absurd (next_words_differ h.words.shape node t.0 (is.nodes node i) (is.nodes t.0 t.1) ne (e ∙ t.3)))
       (cases_eq node t.0))
       gap.after
 
-  rises_old : (node : ℕ) → IsIn h list node → NamesAbove with_new list (h.words.key_of node) (next_of with_new.words node)
-  rises_old node i = ⊎_elim
-      (λ at. subst (NamesAbove with_new list (h.words.key_of node)) (sym at.now)
-      (subst (λ (m : ℕ). (m ≡ 0) ⊎ (IsIn with_new list m × (h.words.key_of node < with_new.words.key_of m))) (sym new_names)
-      (inr (placed_now, subst (λ (m : ℕ). h.words.key_of node < m) (sym key_now) (key_before node i at.here)))))
-      (λ same. subst (NamesAbove with_new list (h.words.key_of node)) (sym same) (above_kept h with_new list extends _ _ (is.rises node i)))
-      (gap_or_same (next_word h.words.shape node) (next_apart node i))
-
-  rises_now : (node : ℕ) → IsIn with_new list node → NamesAbove with_new list (with_new.words.key_of node) (next_of with_new.words node)
-  rises_now node i = ⊎_elim
-      (λ e. subst (λ m. NamesAbove with_new list (with_new.words.key_of m) (next_of with_new.words m)) (sym e)
-      (subst (λ key. NamesAbove with_new list key (next_of with_new.words n.node)) (sym key_now)
-      (subst (NamesAbove with_new list n.key) (sym next_now) above_new)))
-      (λ j. subst (λ key. NamesAbove with_new list key (next_of with_new.words node)) (sym (extends.key_of node j)) (rises_old node j))
-      (in_either node i)
-
-  nodes_now : (node : ℕ) → IsIn with_new list node → IsNode h.words.shape node
-  nodes_now node i = ⊎_elim (λ e. subst (IsNode h.words.shape) (sym e) is_node) (λ j. is.nodes node j) (in_either node i)
-
-  head_apart : head ≢ next_word h.words.shape n.node
-  head_apart e = apart n.node is_node (sym e)
-
-  -- a way through the gap goes on through the new node
-  through : (node : ℕ) → Reaches with_new.words c.old node → Reaches with_new.words c.new node
-  through node r = reaches_later with_new.words c.new node (λ none. some_node (sym new_names ∙ none))
-      (subst (λ m. Reaches with_new.words (next_of with_new.words m) node) (sym new_names)
-      (subst (λ value. Reaches with_new.words value node) (sym next_now) r))
-
-  along : (u node : ℕ) → u ≢ next_word h.words.shape n.node → Reaches with_new.words (h.words.value u) node
-      → Reaches with_new.words (with_new.words.value u) node
-  along u node ne r = ⊎_elim
-      (λ at. subst (λ value. Reaches with_new.words value node) (sym at.now) (through node (subst (λ value. Reaches with_new.words value node) at.was r)))
-      (λ same. subst (λ value. Reaches with_new.words value node) (sym same) r)
-      (gap_or_same u ne)
-
-  plain_before : (u : ℕ) → u ≢ next_word h.words.shape n.node → is_marked (with_new.words.value u) ≡ false → is_marked (h.words.value u) ≡ false
-  plain_before u ne q = ⊎_elim (λ at. ap is_marked at.was ∙ old_plain) (λ same. ap is_marked (sym same) ∙ q) (gap_or_same u ne)
-
-  plain_after : (u : ℕ) → u ≢ next_word h.words.shape n.node → is_marked (h.words.value u) ≡ false → is_marked (with_new.words.value u) ≡ false
-  plain_after u ne q = ⊎_elim (λ at. ap is_marked at.now ∙ new_plain) (λ same. ap is_marked same ∙ q) (gap_or_same u ne)
-
-  -- what was reached is reached
-  reach_old : (node : ℕ) → IsIn h list node → is_marked (next_of h.words node) ≡ false → Reaches with_new.words (with_new.words.value head) node
-  reach_old node i plain = along head node head_apart
-      (reach_kept h with_new.words list node rise (not_null h list rise node i) (λ y iy r. along (next_word h.words.shape y) node (next_apart y iy) r)
-      (node_count h.words.shape) (h.words.value head) is.first (is.reached node i plain))
-
-  -- and so is the new node, from the gap
-  from_gap : (u : ℕ) → u ≢ next_word h.words.shape n.node → u ≡ c.word → Reaches with_new.words (with_new.words.value u) n.node
-  from_gap u ne e = reaches_first with_new.words (with_new.words.value u) n.node
-      (ap linked_node (put_other (changed h.words c).value (next_word h.words.shape n.node) n.next u ne ∙ put_same h.words.value c.word c.new u e)
-      ∙ new_names) some_node
-
-  reach_new : Reaches with_new.words (with_new.words.value head) n.node
-  reach_new = ⊎_elim
-      (λ at_head. from_gap head head_apart (sym at_head))
-      (λ t. let r = reach_old t.0 t.1 (ap is_marked (ap h.words.value (sym t.3)) ∙ gap.unmarked) in
-      reaches_on with_new.words r.0 (with_new.words.value head) t.0 n.node r.1 (from_gap (next_word h.words.shape t.0) (next_apart t.0 t.1) (sym t.3)))
-      gap.after
-
-  pub inserted : IsList with_new list head
-  inserted = list_again with_new list head (record { nodes = nodes_now; rises = rises_now })
-      (plain_after head head_apart is.unmarked)
-      (⊎_elim
-      (λ at. subst (Names with_new list) (sym at.now) (inr (subst (IsIn with_new list) (sym new_names) placed_now)))
-      (λ same. subst (Names with_new list) (sym same) (names_kept h with_new list extends _ is.first))
-      (gap_or_same head head_apart))
-      (λ node i plain. ⊎_elim
-      (λ e. subst (Reaches with_new.words (with_new.words.value head)) (sym e) reach_new)
-      (λ j. reach_old node j (plain_before (next_word h.words.shape node) (next_apart node j) plain))
-      (in_either node i))
-
-  others_same : (q : ℕ) → q ≢ n.key → fin.find nat_cmp q (pairs_from with_new.words head) ≡ fin.find nat_cmp q (pairs_from h.words head)
-  others_same q ne = finds_same h with_new list head is inserted q
-      (λ v p. record {
-        node = p.node;
-        is_in = extends.grows p.node p.is_in;
-        unmarked = plain_after (next_word h.words.shape p.node) (next_apart p.node p.is_in) p.unmarked;
-        has_key = extends.key_of p.node p.is_in ∙ p.has_key;
-        has_value = extends.value_of_node p.node p.is_in ∙ p.has_value;
-      })
-      (λ v p. ⊎_elim
-      (λ e. absurd (ne (sym p.has_key ∙ ap with_new.words.key_of e ∙ key_now)))
-      (λ j. record {
-        node = p.node;
-        is_in = j;
-        unmarked = plain_before (next_word h.words.shape p.node) (next_apart p.node j) p.unmarked;
-        has_key = sym (extends.key_of p.node j) ∙ p.has_key;
-        has_value = sym (extends.value_of_node p.node j) ∙ p.has_value;
-      })
-      (in_either p.node p.is_in))
-
-  new_pair : HasPair with_new list n.key n.value
-  new_pair = record {
-    node = n.node;
-    is_in = placed_now;
-    unmarked = ap is_marked next_now ∙ old_plain;
-    has_key = key_now;
-    has_value = put_same h.words.value_of_node n.node n.value n.node refl;
+  -- the ranks stay
+  pub enters_gap : (key value word old node : ℕ) → IsGap h list head key word → h.words.value word ≡ old → IsNode h.words.shape node → h.placed node ≡ None
+      → Enters h list head is.rank (record { word = word; old = old; new = link_value node false })
+      (record { node = node; structure = list; key = key; value = value; next = old })
+  enters_gap key value word old node gap stands is_node fresh = record {
+    stands = stands;
+    plain = ap is_marked (sym stands) ∙ gap.unmarked;
+    word = ⊎_elim inl (λ t. inr (t.0, t.1, t.3)) gap.after;
+    names = linked_node-link_value node false;
+    in_head = λ e. is_marked-link_value node false;
+    is_node = is_node;
+    fresh = fresh;
+    structure = refl;
+    next = refl;
+    above = subst (NamesAbove h list key) stands gap.before;
+    later = is.rank;
+    stay = λ other i. refl;
+    before = λ other i e. inl (key_before key word gap other i e, is_marked-link_value node false);
   }
-
-  pub inserted_finds : (q : ℕ) → fin.find nat_cmp q (pairs_from with_new.words head) ≡ cond (eq_by_cmp nat_cmp q n.key) (Some n.value)
-      (fin.find nat_cmp q (pairs_from h.words head))
-  inserted_finds q = ⊎_elim
-      (λ e. subst (λ k. fin.find nat_cmp k (pairs_from with_new.words head) ≡ Some n.value) (sym e)
-      (pair-found with_new list head inserted n.key n.value new_pair)
-      ∙ sym (ap (λ b. cond b (Some n.value) (fin.find nat_cmp q (pairs_from h.words head))) (same_ties q n.key e)))
-      (λ ne. others_same q ne ∙ sym (ap (λ b. cond b (Some n.value) (fin.find nat_cmp q (pairs_from h.words head))) (apart_ties q n.key ne)))
-      (cases_eq q n.key)
-
-  pub insert_only : ChangesOnly h with_new list head
-  insert_only = record {
-    shape = refl;
-    placed = λ node. ⊎_elim
-        (λ e. inr (ap h.placed e ∙ fresh, subst (IsIn with_new list) (sym e) placed_now))
-        (λ ne. inl (placed_before node ne))
-        (cases_eq node n.node);
-    elsewhere = λ u. ⊎_elim
-        (λ e. inr (inr (n.node, placed_now, is_node, e)))
-        (λ ne. ⊎_elim
-        (λ at. inr (⊎_elim (λ e. inl (at.here ∙ e)) (λ t. inr (t.0, extends.grows t.0 t.1, is.nodes t.0 t.1, at.here ∙ t.3)) gap.after))
-        inl
-        (gap_or_same u ne))
-        (cases_eq u (next_word h.words.shape n.node));
-    marked = λ node i m. ⊎_elim
-        (λ at. absurd (both_ways (is_marked c.old) old_plain (ap is_marked (sym at.was) ∙ m)))
-        (λ same. same)
-        (gap_or_same (next_word h.words.shape node) (next_apart node i));
-    key_of = λ node placed. put_other h.words.key_of n.node n.key node (other_node node placed);
-    value_of_node = λ node placed. put_other h.words.value_of_node n.node n.value node (other_node node placed);
-  }
-
-  -- a node of the list was one before, or has the new key
-  pub inserted_nodes : (node : ℕ) → IsIn with_new list node → IsIn h list node ⊎ (with_new.words.key_of node ≡ n.key)
-  inserted_nodes node i = ⊎_elim (λ e. inr (ap with_new.words.key_of e ∙ key_now)) inl (in_either node i)

@@ -1,6 +1,7 @@
 pub mod Links
 pub mod Walks
 pub mod Keys
+pub mod Order
 pub mod Chains
 pub mod Pairs
 pub mod Puts
@@ -9,7 +10,9 @@ pub mod Elsewhere
 pub mod Changing
 pub mod Unlinking
 pub mod MarkingNodes
+pub mod Entering
 pub mod Inserting
+pub mod Replacing
 pub mod Tables
 pub mod Standing
 pub mod Framing

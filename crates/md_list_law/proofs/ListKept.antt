@@ -1,5 +1,5 @@
 -- A list after a change: what has to be shown again, and what a change of one list leaves of all else.
-use Rattle.std.proofs.Common.{◌≡◌, ℕ, zero, suc, ◌≢◌, ◌<◌, ◌⊎◌, false, sym, ap, ◌∙◌, subst, inl, inr, ⊎_elim, arith}
+use Rattle.std.proofs.Common.{◌≡◌, ℕ, zero, suc, ◌≢◌, ◌<◌, ◌⊎◌, false, refl, sym, ap, ◌∙◌, subst, inl, inr, ⊎_elim, arith}
 use Rattle.std.specs.List.{Contains}
 use Rattle.std.specs.Ordering.{nat_cmp}
 use Rattle.std.specs.FinMap as fin
@@ -10,10 +10,11 @@ use Rattle.md_machine.specs.declared.node.Structure.{Structure}
 use Rattle.md_machine.specs.LogicalHeap.{LogicalWords, LogicalHeap, next_of}
 use Rattle.md_machine.proofs.lists.Rising.{in_none}
 use Rattle.md_list_law.specs.Walk.{walk, pairs_from}
-use Rattle.md_list_law.specs.ListShape.{IsIn, IsList, Names, NamesAbove}
+use Rattle.md_list_law.specs.ListShape.{IsIn, IsList, IsOnward, Names, NamesAbove, NamesAfter, NamesOnward}
 use Rattle.md_list_law.proofs.Keys.{same_option}
 use Rattle.md_list_law.proofs.Walks.{Reaches, passes, reaches_first, reaches_later}
-use Rattle.md_list_law.proofs.Chains.{Rises, not_null, names_above, reached_at_all}
+use Rattle.md_list_law.proofs.Order.{onward_names}
+use Rattle.md_list_law.proofs.Chains.{Rises, not_null, reached_at_all}
 use Rattle.md_list_law.proofs.Pairs.{HasPair, rises_of, pair-found, found-pair}
 
 -- values that name the same node
@@ -23,9 +24,6 @@ names_link h list value other e = subst (λ (node : ℕ). (node ≡ 0) ⊎ IsIn 
 pub above_link : (h : LogicalHeap) (list : Structure) (key value other : ℕ) → linked_node other ≡ linked_node value → NamesAbove h list key value
     → NamesAbove h list key other
 above_link h list key value other e = subst (λ (node : ℕ). (node ≡ 0) ⊎ (IsIn h list node × (key < h.words.key_of node))) (sym e)
-
-pub above_less : (h : LogicalHeap) (list : Structure) (less key value : ℕ) → less < key → NamesAbove h list key value → NamesAbove h list less value
-above_less h list less key value l = ⊎_elim inl (λ t. let more = t.1 in inr (t.0, omega (arith, l, more)))
 
 -- the nodes of a list are still there, with their keys and values
 pub record Extends (h k : LogicalHeap) (list : Structure) : Type 0 where
@@ -40,6 +38,25 @@ module _ (h k : LogicalHeap) (list : Structure) (x : Extends h k list) where
   pub above_kept : (key value : ℕ) → NamesAbove h list key value → NamesAbove k list key value
   above_kept key value = ⊎_elim inl (λ t. inr (x.grows (linked_node value) t.0, subst (λ (n : ℕ). key < n) (sym (x.key_of (linked_node value) t.0)) t.1))
 
+  pub onward_kept : (key value : ℕ) → NamesOnward h list key value → NamesOnward k list key value
+  onward_kept key value = ⊎_elim inl
+      (λ t. inr (x.grows (linked_node value) t.0, subst (IsOnward (is_marked value) key) (sym (x.key_of (linked_node value) t.0)) t.1))
+
+  -- their order is the same, if their ranks are
+  pub after_kept : (rank later : ℕ → ℕ) → ((node : ℕ) → IsIn h list node → later node ≡ rank node) → (node value : ℕ) → IsIn h list node
+      → Names h list value → NamesAfter h rank node value → NamesAfter k later node value
+  after_kept rank later stay node value i names = ⊎_elim inl (λ p. ⊎_elim inl
+      (λ j.
+      let here = x.key_of node i in
+      let there = x.key_of (linked_node value) j in
+      let low = stay node i in
+      let high = stay (linked_node value) j in
+      inr (⊎_elim
+      (λ less. inl (omega (arith, less, here, there)))
+      (λ same. let less = same.1 in inr (here ∙ same.0 ∙ sym there, omega (arith, less, low, high)))
+      p))
+      names)
+
 -- what was reached is reached, if a step from each node of the list still leads on to it
 pub reach_kept : (h : LogicalHeap) (w : LogicalWords) (list : Structure) (node : ℕ) → Rises h list → node ≢ 0
     → ((y : ℕ) → IsIn h list y → Reaches w (next_of h.words y) node → Reaches w (next_of w y) node)
@@ -52,7 +69,7 @@ reach_kept h w list node r some on (suc n) value names c =
     ⊎_elim
     (λ e. reaches_first w value node e some)
     (λ later. reaches_later w value node p.some (on y i (reach_kept h w list node r some on n (next_of h.words y)
-    (names_above h list r _ _ (r.rises y i)) later)))
+    (onward_names h list _ _ (r.rises y i)) later)))
     p.here_or_later
 
 -- so a heap has the list again
@@ -63,6 +80,8 @@ list_again k list head r unmarked first reach = record {
   unmarked = unmarked;
   first = first;
   rises = r.rises;
+  rank = r.rank;
+  ranks = r.ranks;
   reached = λ node i plain. reached_at_all k list r (k.words.value head) node first (reach node i plain);
 }
 
@@ -93,8 +112,12 @@ module _ (h k : LogicalHeap) (list : Structure) (head : ℕ) (same : SameList h 
       (record {
         nodes = λ node i. subst (λ (shape : Shape). IsNode shape node) (sym same.shape) (is.nodes node (same.back node i));
         rises = λ node i. let j = same.back node i in
-            subst (λ key. NamesAbove k list key (next_of k.words node)) (sym (same.key_of node j))
-            (subst (NamesAbove k list (h.words.key_of node)) (sym (same.next node j)) (above_kept h k list extends _ _ (is.rises node j)));
+            subst (λ key. NamesOnward k list key (next_of k.words node)) (sym (same.key_of node j))
+            (subst (NamesOnward k list (h.words.key_of node)) (sym (same.next node j)) (onward_kept h k list extends _ _ (is.rises node j)));
+        rank = is.rank;
+        ranks = λ node i. let j = same.back node i in
+            subst (NamesAfter k is.rank node) (sym (same.next node j))
+            (after_kept h k list extends is.rank is.rank (λ n w. refl) node _ j (onward_names h list _ _ (is.rises node j)) (is.ranks node j));
       })
       (ap is_marked same.first ∙ is.unmarked)
       (subst (Names k list) (sym same.first) (names_kept h k list extends _ is.first))

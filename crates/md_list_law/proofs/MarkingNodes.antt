@@ -9,9 +9,10 @@ use Rattle.md_machine.specs.declared.node.Structure.{Structure}
 use Rattle.md_machine.specs.declared.certificate.Change.{Change}
 use Rattle.md_machine.specs.LogicalHeap.{LogicalHeap, next_of, changed}
 use Rattle.md_list_law.specs.Walk.{pairs_from}
-use Rattle.md_list_law.specs.ListShape.{next_word, IsIn, IsList}
+use Rattle.md_list_law.specs.ListShape.{next_word, IsIn, IsList, NamesOnward}
 use Rattle.md_list_law.proofs.Keys.{same_ties, apart_ties, none_unless}
 use Rattle.md_list_law.proofs.Links.{linked_node-marked, is_marked-marked, next_words_differ}
+use Rattle.md_list_law.proofs.Order.{above_unmarked, after_link, onward_above}
 use Rattle.md_list_law.proofs.Walks.{reaches_link}
 use Rattle.md_list_law.proofs.Chains.{Rises, not_null, same_key}
 use Rattle.md_list_law.proofs.Pairs.{HasPair, rises_of, found-pair}
@@ -58,9 +59,22 @@ module _ (h : LogicalHeap) (list : Structure) (head : ℕ) (is : IsList h list h
       (λ other. other.1)
       (changed_or_same h.words c (next_word h.words.shape node) stands)
 
+  -- the marked word named a node with a greater key
+  still_onward : (node : ℕ) → IsIn h list node → NamesOnward h list (h.words.key_of node) ((changed h.words c).value (next_word h.words.shape node))
+  still_onward node i = ⊎_elim
+      (λ at. onward_above h list (h.words.key_of node) _ (above_link h list (h.words.key_of node) _ _ (same_link (next_word h.words.shape node))
+      (above_unmarked h list (h.words.key_of node) _ (ap is_marked at.old ∙ plain) (is.rises node i))))
+      (λ other. subst (NamesOnward h list (h.words.key_of node)) (sym other.1) (is.rises node i))
+      (changed_or_same h.words c (next_word h.words.shape node) stands)
+
   pub marked_list : IsList (after_change h c) list head
   marked_list = list_again (after_change h c) list head
-      (record { nodes = is.nodes; rises = λ node i. above_link h list _ _ _ (same_link (next_word h.words.shape node)) (is.rises node i) })
+      (record {
+        nodes = is.nodes;
+        rises = still_onward;
+        rank = is.rank;
+        ranks = λ node i. after_link h is.rank node _ _ (same_link (next_word h.words.shape node)) (is.ranks node i);
+      })
       (ap is_marked head_same ∙ is.unmarked)
       (names_link h list _ _ (same_link head) is.first)
       (λ node i q. reaches_link (changed h.words c) _ _ node (same_link head)
@@ -71,7 +85,10 @@ module _ (h : LogicalHeap) (list : Structure) (head : ℕ) (is : IsList h list h
   -- the node is the only unmarked one with its key
   only_node : (node : ℕ) → IsIn h list node → is_marked (next_of h.words node) ≡ false → h.words.key_of p ≡ h.words.key_of node → p ≡ node
   only_node node i q e = same_key h list rise (node_count h.words.shape) (h.words.value head) p node is.first
-      (is.reached p in_list (ap is_marked (ap h.words.value (sym word) ∙ stands) ∙ plain)) (is.reached node i q) e
+      (is.reached p in_list plain_p) (is.reached node i q) plain_p q e
+    where
+      plain_p : is_marked (next_of h.words p) ≡ false
+      plain_p = ap is_marked (ap h.words.value (sym word) ∙ stands) ∙ plain
 
   -- afterwards nothing is found at its key
   gone : (v : ℕ) → HasPair (after_change h c) list (h.words.key_of p) v → ⊥

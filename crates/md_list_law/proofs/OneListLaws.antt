@@ -17,8 +17,7 @@ use Rattle.md_list_law.specs.Walk.{pairs_from, map_of_pairs}
 use Rattle.md_list_law.specs.ListShape.{IsList}
 use Rattle.md_list_law.specs.OneList.{the_list, the_head, IsOneList, OneListRises, state_of_list, one_list}
 use Rattle.md_list_law.proofs.Links.{head_is_no_next}
-use Rattle.md_list_law.proofs.Chains.{names_above}
-use Rattle.md_list_law.proofs.Pairs.{rises_of}
+use Rattle.md_list_law.proofs.Order.{onward_names}
 use Rattle.md_list_law.proofs.ListKept.{list_same, pairs_same}
 use Rattle.md_list_law.proofs.Elsewhere.{IsNoNext, facts_kept}
 use Rattle.md_list_law.proofs.Tables.{does_as, same_table, acts}
@@ -105,7 +104,7 @@ link_law h word valid counted links free = ⊎_elim
     (λ e. subst (λ w. NamesPlaced h (h.words.value w)) (sym e) (names_placed h the_list _ valid.list.first))
     (λ t. let placed = free t.0 t.1 t.2 in
     subst (λ w. NamesPlaced h (h.words.value w)) (sym t.2)
-    (names_placed h the_list _ (names_above h the_list (rises_of h the_list (the_head h.words.shape) valid.list) _ _
+    (names_placed h the_list _ (onward_names h the_list _ _
     (valid.list.rises t.0 (placed.1 ∙ ap (λ (s : Structure). Some s) (valid.alone t.0 placed.0 placed.1))))))
     links
 

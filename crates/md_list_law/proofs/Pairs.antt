@@ -24,9 +24,9 @@ pairs-unmarked : (w : LogicalWords) (n : ℕ) (ns : List ℕ) → is_marked (nex
     → unmarked_pairs w (n ∷ ns) ≡ (w.key_of n, w.value_of_node n) ∷ unmarked_pairs w ns
 pairs-unmarked w n ns e = cond-false (is_marked (next_of w n)) (unmarked_pairs w ns) ((w.key_of n, w.value_of_node n) ∷ unmarked_pairs w ns) e
 
--- an unmarked node is found by its key, if no other node has it
+-- an unmarked node is found by its key, if no other unmarked node has it
 find-pairs : (w : LogicalWords) (ns : List ℕ) (a : ℕ) → Contains ns a → is_marked (next_of w a) ≡ false
-    → ((b : ℕ) → Contains ns b → w.key_of a ≡ w.key_of b → a ≡ b)
+    → ((b : ℕ) → Contains ns b → is_marked (next_of w b) ≡ false → w.key_of a ≡ w.key_of b → a ≡ b)
     → fin.find nat_cmp (w.key_of a) (unmarked_pairs w ns) ≡ Some (w.value_of_node a)
 find-pairs w [] a c unmarked only = absurd (in_none a c)
 find-pairs w (x ∷ xs) a c unmarked only =
@@ -39,7 +39,7 @@ find-pairs w (x ∷ xs) a c unmarked only =
     (in_cons x xs a c))
     (λ plain. ap (fin.find nat_cmp (w.key_of a)) (pairs-unmarked w x xs plain) ∙ ⊎_elim
     (λ same. find-here (w.key_of a) (w.key_of x) (w.value_of_node x) (unmarked_pairs w xs) same
-    ∙ ap (λ n. Some (w.value_of_node n)) (sym (only x (here x xs) same)))
+    ∙ ap (λ n. Some (w.value_of_node n)) (sym (only x (here x xs) plain same)))
     (λ other. find-further (w.key_of a) (w.key_of x) (w.value_of_node x) (unmarked_pairs w xs) other ∙ ⊎_elim
     (λ e. absurd (other (ap w.key_of (sym e))))
     rest
@@ -85,13 +85,13 @@ pub record HasPair (h : LogicalHeap) (list : Structure) (key value : ℕ) : Type
 
 module _ (h : LogicalHeap) (list : Structure) (head : ℕ) (is : IsList h list head) where
   pub rises_of : Rises h list
-  rises_of = record { nodes = is.nodes; rises = is.rises }
+  rises_of = record { nodes = is.nodes; rises = is.rises; rank = is.rank; ranks = is.ranks }
 
   -- the list finds the pairs of its unmarked nodes, and no others
   pub pair-found : (key value : ℕ) → HasPair h list key value → fin.find nat_cmp key (pairs_from h.words head) ≡ Some value
   pair-found key value p = subst (λ k. fin.find nat_cmp k (pairs_from h.words head) ≡ Some value) p.has_key
       (find-pairs h.words (reached_nodes h.words head) p.node c p.unmarked
-      (λ b d. same_key h list rises_of (node_count h.words.shape) (h.words.value head) p.node b is.first c d) ∙ ap Some p.has_value)
+      (λ b d plain. same_key h list rises_of (node_count h.words.shape) (h.words.value head) p.node b is.first c d p.unmarked plain) ∙ ap Some p.has_value)
     where
       c : Contains (reached_nodes h.words head) p.node
       c = is.reached p.node p.is_in p.unmarked

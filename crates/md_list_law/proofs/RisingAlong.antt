@@ -9,7 +9,7 @@ use Rattle.md_machine.specs.LogicalHeap.{LogicalHeap}
 use Rattle.md_machine.specs.Meaning.{Meaning, StandsBy, TidyStandsBy, after_certificate, after_tidy}
 use Rattle.md_machine.proofs.chain.Agree.{certificate_shape, tidy_shape}
 use Rattle.md_machine.proofs.chain.Along.{found_or_there, tidies_along, wholes_along}
-use Rattle.md_list_law.specs.ListShape.{head_word, next_word, Names, NamesAbove}
+use Rattle.md_list_law.specs.ListShape.{head_word, next_word, Names, NamesOnward}
 use Rattle.md_list_law.specs.HasLists.{HasListsOf}
 use Rattle.md_list_law.specs.Rising.{BucketRises, RisesAtFirst, RisesAlong, RisesTidied}
 
@@ -28,10 +28,12 @@ module _ (M : Meaning) (lists : HasListsOf M) where
         seen = record {
           unmarked = found_or_there h reads writes head (λ value. is_marked value ≡ false) is.unmarked (λ content e. (found.head content e).0);
           first = found_or_there h reads writes head (Names h list) is.first (λ content e. (found.head content e).1);
-          rises = λ node i. found_or_there h reads writes (next_word h.words.shape node) (NamesAbove h list (h.words.key_of node)) (is.rises node i)
+          rises = λ node i. found_or_there h reads writes (next_word h.words.shape node) (NamesOnward h list (h.words.key_of node)) (is.rises node i)
               (λ content e. found.next node content i e);
         };
         there = record { unmarked = is.unmarked; first = is.first; rises = is.rises };
+        rank = is.rank;
+        ranks = is.ranks;
       }
 
   module _ (map bucket : ℕ) where

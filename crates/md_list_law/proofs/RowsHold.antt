@@ -11,9 +11,9 @@ use Rattle.md_machine.specs.declared.certificate.WordValue.{WordValue}
 use Rattle.md_machine.specs.LogicalHeap.{LogicalHeap, Holds}
 use Rattle.md_machine.specs.Meaning.{Stands, TidyStands, after_certificate}
 use Rattle.md_machine.proofs.lists.Rising.{here, there}
-use Rattle.md_list_law.specs.Certificates.{key_fact, IsUnlink, get_some, get_none, insert_true, remove_some}
+use Rattle.md_list_law.specs.Certificates.{key_fact, node_fact, IsUnlink, get_some, get_none, insert_true, remove_some, put_none, put_some}
 use Rattle.md_list_law.specs.OneList.{the_list, the_head, IsOneList}
-use Rattle.md_list_law.specs.Rows.{list_shape, empty_list, insert_5, insert_3, get_4, get_5, remove_3, unlink_3, insert_4, with_5, with_3, without_3, unlinked_3, Applies, WorkedList}
+use Rattle.md_list_law.specs.Rows.{list_shape, empty_list, insert_5, insert_3, get_4, get_5, remove_3, unlink_3, insert_4, put_6, unlink_5, get_6, put_7, with_5, with_3, without_3, unlinked_3, with_4, with_6, unlinked_5, Applies, WorkedList}
 use Rattle.md_list_law.proofs.OneListLaws.{one_list_lawful}
 
 empty_is : IsOneList empty_list
@@ -24,6 +24,8 @@ empty_is = record {
     unmarked = refl;
     first = inl refl;
     rises = λ node i. absurd (cc i);
+    rank = λ node. 0;
+    ranks = λ node i. absurd (cc i);
     reached = λ node i. absurd (cc i);
   };
   alone = λ node s i. absurd (cc i);
@@ -169,6 +171,84 @@ inserts_4 = record {
   stands = stands_each unlinked_3 insert_4 tt (refl, tt) (record { placed = refl; key = refl; value = tt; next = tt }, tt) (refl, tt);
 }
 
+puts_6 : Applies with_4 put_6
+unfolding is_marked linked_node link_value address node_count
+puts_6 = record {
+  certifies = (
+    5,
+    record {
+      row = put_some 50 6 refl refl (record {
+        node = 1;
+        next = 0;
+        new = 4;
+        fact = here _ [];
+        unmarked = refl;
+        is_node = (lit≤ tt, lit≤ tt);
+        changes = refl;
+        nodes = refl;
+      });
+      unlinks = no_unlinks;
+    },
+  );
+  stands = stands_each with_4 put_6 tt (refl, tt) (record { placed = refl; key = refl; value = refl; next = tt }, tt) (refl, tt);
+}
+
+unlink_5_is : IsUnlink list_shape the_list (the_head list_shape) unlink_5
+unfolding is_marked link_value address
+unlink_5_is = record {
+  node = 1;
+  word = inr (3, there _ (node_fact the_list 3 ∷ []) _ (here (node_fact the_list 3) []), refl);
+  old = refl;
+  unmarked = refl;
+  marked = here _ (node_fact the_list 3 ∷ []);
+  nodes = refl;
+}
+
+unlink_5_stands : TidyStands with_6 unlink_5
+unfolding is_marked linked_node link_value address node_count
+unlink_5_stands = record {
+  old = refl;
+  facts = All-from_recursion (Holds with_6) unlink_5.facts (
+    record { placed = refl; key = tt; value = tt; next = (refl, refl) },
+    (record { placed = refl; key = tt; value = tt; next = tt }, tt),
+  );
+  fresh = All-nil (λ (n : NewNode). with_6.placed n.node ≡ None);
+}
+
+finds_6 : Applies unlinked_5 get_6
+unfolding is_marked linked_node link_value address node_count
+finds_6 = record {
+  certifies = (
+    5,
+    record {
+      row = get_some 4 6 refl refl (record { changes = refl; nodes = refl }) (record { fact = here _ []; next = 0; unmarked = refl; recorded = here _ [] });
+      unlinks = All-cons (IsUnlink list_shape the_list (the_head list_shape)) unlink_5 [] unlink_5_is no_unlinks;
+    },
+  );
+  stands = stands_each unlinked_5 get_6 (refl, tt) tt (record { placed = refl; key = refl; value = refl; next = tt }, tt) tt;
+}
+
+puts_7 : Applies empty_list put_7
+unfolding is_marked linked_node link_value address node_count
+puts_7 = record {
+  certifies = (
+    7,
+    record {
+      row = put_none 70 refl refl (record {
+        word = 1;
+        old = 0;
+        node = 1;
+        place = record { unmarked = refl; after = inl refl; before = inl refl };
+        is_node = (lit≤ tt, lit≤ tt);
+        changes = refl;
+        nodes = refl;
+      });
+      unlinks = no_unlinks;
+    },
+  );
+  stands = stands_each empty_list put_7 tt (refl, tt) tt (refl, tt);
+}
+
 -- by the laws each heap is a list
 list_after : (h : LogicalHeap) (c : Certificate) → IsOneList h → Applies h c → IsOneList (after_certificate h c)
 list_after h c valid a = let r = one_list_lawful.certificate h c valid a.certifies a.stands in r.1.valid
@@ -185,6 +265,15 @@ valid_without = list_after with_3 remove_3 valid_3 removes_3
 valid_unlinked : IsOneList unlinked_3
 valid_unlinked = let r = one_list_lawful.tidy without_3 unlink_3 valid_without unlink_is unlink_stands in r.valid
 
+valid_4 : IsOneList with_4
+valid_4 = list_after unlinked_3 insert_4 valid_unlinked inserts_4
+
+valid_6 : IsOneList with_6
+valid_6 = list_after with_4 put_6 valid_4 puts_6
+
+valid_unlinked_5 : IsOneList unlinked_5
+valid_unlinked_5 = let r = one_list_lawful.tidy with_6 unlink_5 valid_6 unlink_5_is unlink_5_stands in r.valid
+
 pub worked_list : WorkedList
 unfolding is_marked linked_node link_value address node_count
 worked_list = record {
@@ -193,7 +282,9 @@ worked_list = record {
   valid_two = valid_3;
   valid_removed = valid_without;
   valid_unlinked = valid_unlinked;
-  valid_last = list_after unlinked_3 insert_4 valid_unlinked inserts_4;
+  valid_last = valid_4;
+  valid_put = valid_6;
+  valid_replaced = valid_unlinked_5;
   inserts = inserts_5;
   inserts_before = inserts_3;
   misses = misses_4;
@@ -201,9 +292,16 @@ worked_list = record {
   removes = removes_3;
   unlinks = (unlink_is, unlink_stands);
   inserts_again = inserts_4;
+  puts = puts_6;
+  unlinks_replaced = (unlink_5_is, unlink_5_stands);
+  finds_put = finds_6;
+  puts_first = puts_7;
   one = refl;
   two = refl;
   removed = refl;
   unlinked = refl;
   last = refl;
+  put = refl;
+  replaced = refl;
+  put_first = refl;
 }

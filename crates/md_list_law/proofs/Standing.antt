@@ -1,7 +1,7 @@
 -- A certificate or an unlink that stands in a heap with the list leaves one.
 use Rattle.std.proofs.Common.{◌≡◌, ℕ, ◌+◌, ◌<◌, ◌⊎◌, true, false, cond, List, [], ◌∷◌, Option, Some, None, refl, sym, ap, ◌∙◌, subst, inl, inr, ⊎_elim}
 use Rattle.std.specs.Prelude.{is_none}
-use Rattle.std.specs.List.{All}
+use Rattle.std.specs.List.{All, Contains}
 use Rattle.std.specs.Ordering.{nat_cmp, eq_by_cmp}
 use Rattle.std.specs.FinMap as fin
 use Rattle.std.proofs.lemmas.Bool.{cases_eq}
@@ -10,18 +10,18 @@ use Rattle.md_words.specs.Link.{link_value, linked_node, is_marked}
 use Rattle.md_history.specs.declared.acts.Op.{Op}
 use Rattle.md_history.specs.declared.acts.Reply.{Reply}
 use Rattle.md_history.specs.declared.acts.Reply.TheVariants.{Value, Flag}
-use Rattle.md_history.specs.declared.acts.Op.TheVariants.{Insert, Remove}
+use Rattle.md_history.specs.declared.acts.Op.TheVariants.{Insert, Remove, Put}
 use Rattle.md_machine.specs.declared.node.Structure.{Structure}
 use Rattle.md_machine.specs.declared.certificate.Certificate.{Certificate}
 use Rattle.md_machine.specs.declared.certificate.Change.{Change}
 use Rattle.md_machine.specs.declared.certificate.Fact.{Fact}
 use Rattle.md_machine.specs.declared.certificate.NewNode.{NewNode}
 use Rattle.md_machine.specs.declared.certificate.TidyChange.{TidyChange}
-use Rattle.md_machine.specs.LogicalHeap.{LogicalHeap, Holds, next_of, after_nodes}
+use Rattle.md_machine.specs.LogicalHeap.{LogicalHeap, Holds, next_of, after_node, after_nodes}
 use Rattle.md_machine.specs.Meaning.{Stands, TidyStands, after_certificate, after_tidy}
 use Rattle.md_list_law.specs.Walk.{pairs_from}
 use Rattle.md_list_law.specs.ListShape.{next_word, IsIn, IsList, NamesAbove}
-use Rattle.md_list_law.specs.Certificates.{key_fact, pair_fact, node_fact, next_fact, IsPlaceOf, ChangesNothing, RecordsNode, RecordsPlace, PlacesNode, MarksNode, IsRow, IsUnlink, get_some, get_none, insert_false, insert_true, remove_none, remove_some}
+use Rattle.md_list_law.specs.Certificates.{key_fact, pair_fact, node_fact, next_fact, IsPlaceOf, ChangesNothing, RecordsNode, RecordsPlace, PlacesNode, MarksNode, ReplacesNode, IsRow, IsUnlink, get_some, get_none, insert_false, insert_true, remove_none, remove_some, put_none, put_some}
 use Rattle.md_list_law.specs.Gaps.{IsGap}
 use Rattle.md_list_law.proofs.Keys.{same_ties, apart_ties}
 use Rattle.md_list_law.proofs.Pairs.{gap_empty, node_found}
@@ -29,8 +29,10 @@ use Rattle.md_list_law.proofs.Elsewhere.{ChangesOnly, IsNoNext}
 use Rattle.md_list_law.proofs.Changing.{IsListWord, after_change, heap_after}
 use Rattle.md_list_law.proofs.Unlinking.{unlinked, unlinked_same, unlink_only}
 use Rattle.md_list_law.proofs.MarkingNodes.{marked_list, marked_finds, mark_only}
-use Rattle.md_list_law.proofs.Inserting.{inserted, inserted_finds, insert_only, inserted_nodes}
-use Rattle.md_list_law.proofs.Tables.{Does, gets, inserts, removes}
+use Rattle.md_list_law.proofs.Entering.{Enters, entered, entered_finds, entered_nodes, enters_only}
+use Rattle.md_list_law.proofs.Inserting.{enters_gap}
+use Rattle.md_list_law.proofs.Replacing.{enters_after}
+use Rattle.md_list_law.proofs.Tables.{Does, gets, inserts, removes, puts}
 
 -- what the list of a heap finds
 abbrev pub found_in : LogicalHeap → (head q : ℕ) → Option ℕ
@@ -143,22 +145,38 @@ module _ (h : LogicalHeap) (list : Structure) (head : ℕ) (is : IsList h list h
       gap : IsGap h list head key p.word
       gap = gap_of c.facts key p.word p.old st.facts p.place stands
 
-      placed_node : c.reply ≡ Flag true → c.op ≡ Insert map key value → RowAfter h (after_certificate h c) list head map key c
-      placed_node reply op = subst (λ (k : LogicalHeap). RowAfter h k list head map key c)
+      none : found_in h head key ≡ None
+      none = gap_empty h list head is key p.word gap
+
+      enters : Enters h list head is.rank change node
+      enters = enters_gap h list head is apart key value p.word p.old p.node gap stands p.is_node fresh
+
+      -- whichever operation it was
+      placed_by : Does c map key (found_in (after_node (after_change h change) node) head) (found_in h head)
+          → RowAfter h (after_certificate h c) list head map key c
+      placed_by does = subst (λ (k : LogicalHeap). RowAfter h k list head map key c)
           (sym (heap_is h c.changes (change ∷ []) c.nodes (node ∷ []) p.changes p.nodes))
           (record {
-            after = record {
-              again = inserted h list head is apart change node gap stands refl p.is_node fresh refl refl;
-              only = insert_only h list head is apart change node gap stands refl p.is_node fresh refl refl;
-            };
-            nodes = inserted_nodes h list head is apart change node gap stands refl p.is_node fresh refl refl;
-            does = inserts value op (reply ∙ ap (λ x. Flag (is_none x)) (sym none))
-                (λ q. inserted_finds h list head is apart change node gap stands refl p.is_node fresh refl refl q
-                ∙ ap (λ x. cond (is_none x) (cond (eq_by_cmp nat_cmp q key) (Some value) (found_in h head q)) (found_in h head q)) (sym none));
+            after = record { again = entered h list head is apart change node enters; only = enters_only h list head is apart change node enters };
+            nodes = entered_nodes h list head is apart change node enters;
+            does = does;
           })
-        where
-          none : found_in h head key ≡ None
-          none = gap_empty h list head is key p.word gap
+
+      inserted_node : c.reply ≡ Flag true → c.op ≡ Insert map key value → RowAfter h (after_certificate h c) list head map key c
+      inserted_node reply op = placed_by (inserts value op (reply ∙ ap (λ x. Flag (is_none x)) (sym none))
+          (λ q. entered_finds h list head is apart change node enters q
+          ∙ ap (λ x. cond (is_none x) (cond (eq_by_cmp nat_cmp q key) (Some value) (found_in h head q)) (found_in h head q)) (sym none)))
+
+      put_node : c.reply ≡ Value None → c.op ≡ Put map key value → RowAfter h (after_certificate h c) list head map key c
+      put_node reply op = placed_by (puts value op (reply ∙ ap Value (sym none)) (entered_finds h list head is apart change node enters))
+
+    -- an unmarked node shows what is found at its key
+    pair_found : (node value next : ℕ) → Contains c.facts (pair_fact list node key value) → next_of h.words node ≡ next → is_marked next ≡ false
+        → found_in h head key ≡ Some value
+    pair_found node value next fact stands plain =
+        let known = All-contains (Holds h) c.facts (pair_fact list node key value) st.facts fact in
+        subst (λ q. found_in h head q ≡ Some (h.words.value_of_node node)) known.key
+        (node_found h list head is node known.placed (ap is_marked stands ∙ plain)) ∙ ap Some known.value
 
     -- a node is marked
     module _ (value : ℕ) (m : MarksNode h.words.shape list c key value) where
@@ -173,8 +191,7 @@ module _ (h : LogicalHeap) (list : Structure) (head : ℕ) (is : IsList h list h
           (subst (All (λ (ch : Change). h.words.value ch.word ≡ ch.old)) m.changes st.old)
 
       was_found : found_in h head key ≡ Some value
-      was_found = subst (λ q. found_in h head q ≡ Some (h.words.value_of_node m.node)) known.key
-          (node_found h list head is m.node known.placed (ap is_marked next_is ∙ m.unmarked)) ∙ ap Some known.value
+      was_found = pair_found m.node value m.old m.fact next_is m.unmarked
 
       marked_node : c.reply ≡ Value (Some value) → c.op ≡ Remove map key → RowAfter h (after_certificate h c) list head map key c
       marked_node reply op = subst (λ (k : LogicalHeap). RowAfter h k list head map key c) (sym (heap_is h c.changes (mark ∷ []) c.nodes [] m.changes m.nodes))
@@ -187,6 +204,38 @@ module _ (h : LogicalHeap) (list : Structure) (head : ℕ) (is : IsList h list h
             does = removes op (reply ∙ ap Value (sym was_found))
                 (λ q. marked_finds h list head is apart mark m.node known.placed refl next_is m.unmarked refl q
                 ∙ ap (λ k. cond (eq_by_cmp nat_cmp q k) None (found_in h head q)) known.key);
+          })
+
+    -- a node is replaced
+    module _ (old value : ℕ) (r : ReplacesNode h.words.shape list c key old value) where
+      abbrev replacing : Change
+      replacing = record { word = next_word h.words.shape r.node; old = r.next; new = link_value r.new true }
+
+      abbrev replacement : NewNode
+      replacement = record { node = r.new; structure = list; key = key; value = value; next = r.next }
+
+      replaced_known : Holds h (pair_fact list r.node key old)
+      replaced_known = All-contains (Holds h) c.facts (pair_fact list r.node key old) st.facts r.fact
+
+      replaced_next : next_of h.words r.node ≡ r.next
+      replaced_next = All-head (λ (ch : Change). h.words.value ch.word ≡ ch.old) replacing []
+          (subst (All (λ (ch : Change). h.words.value ch.word ≡ ch.old)) r.changes st.old)
+
+      replaces : Enters h list head is.rank replacing replacement
+      replaces = enters_after h list head is apart key value r.node r.next r.new replaced_known.placed replaced_known.key replaced_next r.unmarked r.is_node
+          (All-head (λ (n : NewNode). h.placed n.node ≡ None) replacement [] (subst (All (λ (n : NewNode). h.placed n.node ≡ None)) r.nodes st.fresh))
+
+      replaced_node : c.reply ≡ Value (Some old) → c.op ≡ Put map key value → RowAfter h (after_certificate h c) list head map key c
+      replaced_node reply op = subst (λ (k : LogicalHeap). RowAfter h k list head map key c)
+          (sym (heap_is h c.changes (replacing ∷ []) c.nodes (replacement ∷ []) r.changes r.nodes))
+          (record {
+            after = record {
+              again = entered h list head is apart replacing replacement replaces;
+              only = enters_only h list head is apart replacing replacement replaces;
+            };
+            nodes = entered_nodes h list head is apart replacing replacement replaces;
+            does = puts value op (reply ∙ ap Value (sym (pair_found r.node old r.next r.fact replaced_next r.unmarked)))
+                (entered_finds h list head is apart replacing replacement replaces);
           })
 
     -- each row of the table
@@ -207,10 +256,12 @@ module _ (h : LogicalHeap) (list : Structure) (head : ℕ) (is : IsList h list h
 
         found : found_in h head key ≡ Some (h.words.value_of_node node)
         found = recorded_found (key_fact list node key) r refl known.key
-    row_after (insert_true value op reply p) = placed_node value p reply op
+    row_after (insert_true value op reply p) = inserted_node value p reply op
     row_after (remove_none op reply none r) = unchanged none (removes op (reply ∙ ap Value (sym (recorded_absent r)))
         (absent_taken (found_in h head) key (recorded_absent r)))
     row_after (remove_some value op reply m) = marked_node value m reply op
+    row_after (put_none value op reply p) = put_node value p reply op
+    row_after (put_some old value op reply r) = replaced_node old value r reply op
 
   -- what stands and what it leaves don't look at the operation and the reply: so a row may be of an order number in place
   -- of the operation's key, as in a table that is one list in split order

@@ -5,7 +5,7 @@ use Rattle.std.specs.Ordering.{eq_by_cmp, nat_cmp}
 use Rattle.std.specs.Cmp.{nat_cmp_total}
 use Rattle.std.specs.FinMap as fin
 use Rattle.std.proofs.lemmas.List.{set-get_or}
-use Rattle.md_history.specs.declared.acts.Op.TheVariants.{Get, Insert, Remove}
+use Rattle.md_history.specs.declared.acts.Op.TheVariants.{Get, Insert, Remove, Put}
 use Rattle.md_history.specs.declared.acts.Reply.TheVariants.{Value, Flag}
 use Rattle.md_history.specs.State.{State, Table, map_at, with_map, answer, after}
 use Rattle.md_machine.specs.declared.certificate.Certificate.{Certificate}
@@ -17,6 +17,8 @@ pub data Does (c : Certificate) (map key : ℕ) (now was : ℕ → Option ℕ) :
   inserts : (value : ℕ) → c.op ≡ Insert map key value → c.reply ≡ Flag (is_none (was key))
       → ((q : ℕ) → now q ≡ cond (is_none (was key)) (cond (eq_by_cmp nat_cmp q key) (Some value) (was q)) (was q)) → Does c map key now was
   removes : c.op ≡ Remove map key → c.reply ≡ Value (was key) → ((q : ℕ) → now q ≡ cond (eq_by_cmp nat_cmp q key) None (was q)) → Does c map key now was
+  puts : (value : ℕ) → c.op ≡ Put map key value → c.reply ≡ Value (was key) → ((q : ℕ) → now q ≡ cond (eq_by_cmp nat_cmp q key) (Some value) (was q))
+      → Does c map key now was
 
 -- the same, told of a map that finds what was found, but for other keys that it finds as before
 pub does_as : (c : Certificate) (map key : ℕ) (now was more before : ℕ → Option ℕ)
@@ -43,6 +45,11 @@ does_as c map key now was more before how d = told d
         (λ q. ⊎_elim
         (λ t. t.0 ∙ finds q ∙ ap (cond (eq_by_cmp nat_cmp q key) None) (sym t.1))
         (λ t. t.1 ∙ sym (ap (λ b. cond b None (before q)) (apart_ties q key t.0)))
+        (how q))
+    told (puts value op reply finds) = puts value op (reply ∙ ap Value (sym at_key))
+        (λ q. ⊎_elim
+        (λ t. t.0 ∙ finds q ∙ ap (cond (eq_by_cmp nat_cmp q key) (Some value)) (sym t.1))
+        (λ t. t.1 ∙ sym (ap (λ b. cond b (Some value) (before q)) (apart_ties q key t.0)))
         (how q))
 
 -- a map that is put where it was
@@ -71,3 +78,4 @@ module _ (s : State) (m key : ℕ) (t : Table) where
   acts c (gets op reply finds) = (reply ∙ ap (answer s) (sym op), kept finds ∙ ap (after s) (sym op))
   acts c (inserts value op reply finds) = (reply ∙ ap (answer s) (sym op), added value (is_none (fin.get (map_at s m) key)) finds ∙ ap (after s) (sym op))
   acts c (removes op reply finds) = (reply ∙ ap (answer s) (sym op), taken finds ∙ ap (after s) (sym op))
+  acts c (puts value op reply finds) = (reply ∙ ap (answer s) (sym op), added value true finds ∙ ap (after s) (sym op))

@@ -10,13 +10,14 @@ use Rattle.md_machine.specs.declared.node.Structure.{Structure}
 use Rattle.md_machine.specs.declared.certificate.Change.{Change}
 use Rattle.md_machine.specs.LogicalHeap.{LogicalHeap, next_of, changed}
 use Rattle.md_list_law.specs.Walk.{pairs_from}
-use Rattle.md_list_law.specs.ListShape.{next_word, IsIn, IsList, Names, NamesAbove}
+use Rattle.md_list_law.specs.ListShape.{next_word, IsIn, IsList, Names, NamesAbove, NamesAfter, NamesOnward, Precedes}
 use Rattle.md_list_law.proofs.Links.{linked_node-marked, is_marked-marked}
+use Rattle.md_list_law.proofs.Order.{above_onward, above_unmarked, after_link, after_over, onward_above, onward_names}
 use Rattle.md_list_law.proofs.Walks.{Reaches, reaches_link, reached_past}
-use Rattle.md_list_law.proofs.Chains.{Rises, not_null, names_above}
+use Rattle.md_list_law.proofs.Chains.{Rises, not_null}
 use Rattle.md_list_law.proofs.Pairs.{rises_of}
 use Rattle.md_list_law.proofs.Puts.{changed_or_same}
-use Rattle.md_list_law.proofs.ListKept.{above_link, above_less, reach_kept, list_again, finds_same}
+use Rattle.md_list_law.proofs.ListKept.{names_link, above_link, reach_kept, list_again, finds_same}
 use Rattle.md_list_law.proofs.Elsewhere.{ChangesOnly}
 use Rattle.md_list_law.proofs.Changing.{IsListWord, after_change, change_only, marked_same}
 
@@ -39,18 +40,37 @@ module _ (h : LogicalHeap) (list : Structure) (head : ℕ) (is : IsList h list h
   new_names = sym (ap linked_node marked ∙ linked_node-marked c.new unmarked)
 
   -- the new value names what the unlinked node's next word names
-  above_x : NamesAbove h list (h.words.key_of x) c.new
-  above_x = above_link h list (h.words.key_of x) (next_of h.words x) c.new new_names (is.rises x in_list)
+  names_x : Names h list c.new
+  names_x = names_link h list (next_of h.words x) c.new new_names (onward_names h list _ _ (is.rises x in_list))
+
+  above_x : (less : ℕ) → less < h.words.key_of x → NamesAbove h list less c.new
+  above_x less below = above_link h list less (next_of h.words x) c.new new_names
+      (above_onward h list (h.words.key_of x) (next_of h.words x) less below (is.rises x in_list))
 
   key_below : (key : ℕ) → NamesAbove h list key c.old → key < h.words.key_of x
   key_below key = ⊎_elim (λ none. absurd (not_null h list rise x in_list (sym old_names ∙ none))) (λ t. subst (λ n. key < h.words.key_of n) old_names t.1)
 
-  still_rises : (node : ℕ) → IsIn h list node → NamesAbove h list (h.words.key_of node) ((changed h.words c).value (next_word h.words.shape node))
+  still_rises : (node : ℕ) → IsIn h list node → NamesOnward h list (h.words.key_of node) ((changed h.words c).value (next_word h.words.shape node))
   still_rises node i = ⊎_elim
-      (λ at. subst (NamesAbove h list (h.words.key_of node)) (sym at.new)
-      (above_less h list (h.words.key_of node) (h.words.key_of x) c.new
-      (key_below (h.words.key_of node) (subst (NamesAbove h list (h.words.key_of node)) at.old (is.rises node i))) above_x))
-      (λ other. subst (NamesAbove h list (h.words.key_of node)) (sym other.1) (is.rises node i))
+      (λ at. subst (NamesOnward h list (h.words.key_of node)) (sym at.new)
+      (onward_above h list (h.words.key_of node) c.new (above_x (h.words.key_of node)
+      (key_below (h.words.key_of node) (above_unmarked h list (h.words.key_of node) c.old old_plain
+      (subst (NamesOnward h list (h.words.key_of node)) at.old (is.rises node i)))))))
+      (λ other. subst (NamesOnward h list (h.words.key_of node)) (sym other.1) (is.rises node i))
+      (changed_or_same h.words c (next_word h.words.shape node) stands)
+
+  -- a node before the unlinked one comes before what that one's next word names
+  before_x : (node : ℕ) → NamesAfter h is.rank node c.old → Precedes h is.rank node x
+  before_x node = ⊎_elim (λ none. absurd (not_null h list rise x in_list (sym old_names ∙ none))) (subst (Precedes h is.rank node) old_names)
+
+  after_x : NamesAfter h is.rank x c.new
+  after_x = after_link h is.rank x (next_of h.words x) c.new new_names (is.ranks x in_list)
+
+  still_ranked : (node : ℕ) → IsIn h list node → NamesAfter h is.rank node ((changed h.words c).value (next_word h.words.shape node))
+  still_ranked node i = ⊎_elim
+      (λ at. subst (NamesAfter h is.rank node) (sym at.new)
+      (after_over h is.rank node x c.new (before_x node (subst (NamesAfter h is.rank node) at.old (is.ranks node i))) after_x))
+      (λ other. subst (NamesAfter h is.rank node) (sym other.1) (is.ranks node i))
       (changed_or_same h.words c (next_word h.words.shape node) stands)
 
   -- what is unmarked after it was unmarked before, and the other way round
@@ -75,10 +95,10 @@ module _ (h : LogicalHeap) (list : Structure) (head : ℕ) (is : IsList h list h
       (changed_or_same h.words c u stands)
 
   pub unlinked : IsList (after_change h c) list head
-  unlinked = list_again (after_change h c) list head (record { nodes = is.nodes; rises = still_rises })
+  unlinked = list_again (after_change h c) list head (record { nodes = is.nodes; rises = still_rises; rank = is.rank; ranks = still_ranked })
       (plain_after head is.unmarked)
       (⊎_elim
-      (λ at. subst (Names h list) (sym at.new) (names_above h list rise _ _ above_x))
+      (λ at. subst (Names h list) (sym at.new) names_x)
       (λ other. subst (Names h list) (sym other.1) is.first)
       (changed_or_same h.words c head stands))
       (λ node i plain.

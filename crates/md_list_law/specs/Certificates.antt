@@ -1,9 +1,9 @@
--- The certificates of a list: why Get, Insert and Remove have their replies, and what they change. And the unlink.
+-- The certificates of a list: why Get, Insert, Remove and Put have their replies, and what they change. And the unlink.
 use Rattle.std.specs.Prelude.{◌≡◌, ◌⊎◌, ◌<◌, ◌+◌, ℕ, true, false, List, [], ◌∷◌, All, Contains, Some, None}
 use Rattle.md_words.specs.declared.shape.Shape.{Shape}
 use Rattle.md_words.specs.Link.{link_value, linked_node, is_marked}
 use Rattle.md_words.specs.Layout.{IsNode}
-use Rattle.md_history.specs.declared.acts.Op.TheVariants.{Get, Insert, Remove}
+use Rattle.md_history.specs.declared.acts.Op.TheVariants.{Get, Insert, Remove, Put}
 use Rattle.md_history.specs.declared.acts.Reply.TheVariants.{Value, Flag}
 use Rattle.md_machine.specs.declared.node.Structure.{Structure}
 use Rattle.md_machine.specs.declared.certificate.Certificate.{Certificate}
@@ -69,6 +69,18 @@ pub record MarksNode (shape : Shape) (list : Structure) (c : Certificate) (key v
   pub changes : c.changes ≡ record { word = next_word shape node; old = old; new = old + 1 } ∷ []
   pub nodes : c.nodes ≡ []
 
+-- it marks the next word of the node that has the key and the old value, so that it names a new node with the key and the
+-- new value, whose next word has what stood there
+pub record ReplacesNode (shape : Shape) (list : Structure) (c : Certificate) (key old value : ℕ) : Type 0 where
+  pub node : ℕ
+  pub next : ℕ
+  pub new : ℕ
+  pub fact : Contains c.facts (pair_fact list node key old)
+  pub unmarked : is_marked next ≡ false
+  pub is_node : IsNode shape new
+  pub changes : c.changes ≡ record { word = next_word shape node; old = next; new = link_value new true } ∷ []
+  pub nodes : c.nodes ≡ record { node = new; structure = list; key = key; value = value; next = next } ∷ []
+
 -- the certificate of an operation on a key of a map, by what it is answered
 pub data IsRow (shape : Shape) (list : Structure) (head map key : ℕ) (c : Certificate) : Type 0 where
   get_some : (node value : ℕ) → c.op ≡ Get map key → c.reply ≡ Value (Some value) → ChangesNothing c
@@ -79,6 +91,9 @@ pub data IsRow (shape : Shape) (list : Structure) (head map key : ℕ) (c : Cert
   insert_true : (value : ℕ) → c.op ≡ Insert map key value → c.reply ≡ Flag true → PlacesNode shape list head c key value → IsRow shape list head map key c
   remove_none : c.op ≡ Remove map key → c.reply ≡ Value None → ChangesNothing c → RecordsPlace shape list head c key → IsRow shape list head map key c
   remove_some : (value : ℕ) → c.op ≡ Remove map key → c.reply ≡ Value (Some value) → MarksNode shape list c key value → IsRow shape list head map key c
+  put_none : (value : ℕ) → c.op ≡ Put map key value → c.reply ≡ Value None → PlacesNode shape list head c key value → IsRow shape list head map key c
+  put_some : (old value : ℕ) → c.op ≡ Put map key value → c.reply ≡ Value (Some old) → ReplacesNode shape list c key old value
+      → IsRow shape list head map key c
 
 -- the unlink: an unmarked word of the list that names a node whose next word is marked gets that word's value, without
 -- the mark

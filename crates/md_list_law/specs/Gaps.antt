@@ -8,7 +8,7 @@ use Rattle.md_machine.specs.declared.node.Structure.{Structure}
 use Rattle.md_machine.specs.declared.node.Structure.TheVariants.{Bucket}
 use Rattle.md_machine.specs.LogicalHeap.{LogicalHeap, next_of}
 use Rattle.md_machine.specs.Meaning.{Meaning}
-use Rattle.md_list_law.specs.ListShape.{next_word, head_word, IsIn, NamesAbove}
+use Rattle.md_list_law.specs.ListShape.{next_word, head_word, IsIn, NamesAbove, NamesOnward}
 
 -- an unmarked word, the list's head or the next word of a node with a smaller key, names no node or one with a greater
 -- key
@@ -21,7 +21,7 @@ module _ (M : Meaning) where
   -- keys rise along the next words of a bucket's nodes
   abbrev pub KeysRise : Type 0
   KeysRise = (h : LogicalHeap) (map bucket node : ℕ) → M.valid h → map < h.words.shape.maps → bucket < h.words.shape.buckets
-      → IsIn h (Bucket map bucket) node → NamesAbove h (Bucket map bucket) (h.words.key_of node) (next_of h.words node)
+      → IsIn h (Bucket map bucket) node → NamesOnward h (Bucket map bucket) (h.words.key_of node) (next_of h.words node)
 
   -- a gap shows that a key is absent
   abbrev pub GapShowsAbsent : Type 0

@@ -13,20 +13,22 @@ use Rattle.md_machine.specs.Certified.{AllStandBy, TidiesStandBy, after_tidies, 
 use Rattle.md_machine.specs.LogicalHeap.{LogicalHeap, next_of}
 use Rattle.md_machine.specs.Meaning.{Meaning, StandsBy, TidyStandsBy, after_certificate, after_tidy}
 use Rattle.md_machine.specs.SeesNodes.{SeesNodes}
-use Rattle.md_list_law.specs.ListShape.{head_word, next_word, IsIn, Names, NamesAbove}
+use Rattle.md_list_law.specs.ListShape.{head_word, next_word, IsIn, IsRank, Names, NamesOnward}
 
--- the links of a list: its head is unmarked and names no node or one of the list, and the next word of each node of the
--- list, marked or not, names none or one with a greater key
+-- the links of a list: its head is unmarked and names no node or one of the list, and keys rise along the next words of
+-- the list's nodes
 pub record LinksRise (h : LogicalHeap) (list : Structure) (head : ℕ) : Type 0 where
   pub unmarked : is_marked (h.words.value head) ≡ false
   pub first : Names h list (h.words.value head)
-  pub rises : (node : ℕ) → IsIn h list node → NamesAbove h list (h.words.key_of node) (next_of h.words node)
+  pub rises : (node : ℕ) → IsIn h list node → NamesOnward h list (h.words.key_of node) (next_of h.words node)
 
--- keys rise in what a transaction sees of a heap, and in the heap as it is
+-- keys rise in what a transaction sees of a heap, and in the heap as it is, whose nodes have ranks
 pub record BothRise (own h : LogicalHeap) (list : Structure) (head : ℕ) : Type 0 where
   pub nodes : SeesNodes own h
   pub seen : LinksRise own list head
   pub there : LinksRise h list head
+  pub rank : ℕ → ℕ
+  pub ranks : IsRank h list rank
 
 -- so it is in a bucket
 abbrev pub BucketRises : (own h : LogicalHeap) → (map bucket : ℕ) → Type 0
@@ -38,7 +40,7 @@ pub record FoundRising (reads : List Read) (writes : List Write) (h : LogicalHea
       → (is_marked (value_of content) ≡ false) × Names h (Bucket map bucket) (value_of content)
   pub next : (node content : ℕ) → IsIn h (Bucket map bucket) node
       → first_content reads writes (next_word h.words.shape node) ≡ Some content
-      → NamesAbove h (Bucket map bucket) (h.words.key_of node) (value_of content)
+      → NamesOnward h (Bucket map bucket) (h.words.key_of node) (value_of content)
 
 module _ (M : Meaning) where
   -- a certificate that stands by what a transaction sees leaves keys rising, whatever else it changes, and so does a

@@ -1,6 +1,7 @@
-//! Michael's lock-free list: when words are a list, which certificates Get, Insert and Remove have,
-//! and what an unlink is. After M. M. Michael, "High Performance Dynamic Lock-Free Hash Tables and
-//! List-Based Sets" (2002).
+//! Michael's lock-free list: when words are a list, which certificates Get, Insert, Remove and Put
+//! have, and what an unlink is. After M. M. Michael, "High Performance Dynamic Lock-Free Hash
+//! Tables and List-Based Sets" (2002). Put isn't Michael's: the node with the key gets a mark, and
+//! names a new node with the same key.
 //!
 //! What follows:
 //!

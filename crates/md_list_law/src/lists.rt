@@ -13,10 +13,11 @@ pub trait HasLists: Theory {
     ghost has_lists: { HasListsOf Self.meaning };
 }
 
-/// It does nothing: its contract is what a walk along a bucket shows. Keys rise along next words.
-/// A gap between keys shows that a key is absent. A node with an unmarked next word shows that its
-/// key is present. And keys rise along what a transaction sees of a bucket, its own slots and its
-/// own new nodes among it, even if it can no longer commit: so its walk ends.
+/// It does nothing: its contract is what a walk along a bucket shows. Keys rise along next words,
+/// though a marked one may name a node with the same key. A gap between keys shows that a key is
+/// absent. A node with an unmarked next word shows that its key is present. And keys rise along
+/// what a transaction sees of a bucket, its own slots and its own new nodes among it, even if it
+/// can no longer commit: so its walk ends.
 pub fn list_facts<T: HasLists>()
     ensures rises { KeysRise T.meaning }
     ensures absent { GapShowsAbsent T.meaning }

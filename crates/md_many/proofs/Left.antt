@@ -12,7 +12,7 @@ use Rattle.md_many_attempts.specs.ByCaller.{lines_of}
 use Rattle.md_many.specs.Left.{left_of, all_tags}
 use Rattle.md_many.proofs.TagLaws.{length-tags_after}
 
-abbrev Has : List ℕ → ℕ → Type 0
+abbrev pub Has : List ℕ → ℕ → Type 0
 Has ts t = list_any (λ u. u == t) ts ≡ true
 
 pub left-most : (all tags : List ℕ) → left_of all tags ≤ length all

@@ -20,3 +20,4 @@ pub mod Weighing
 pub mod Bodies
 pub mod Replacing
 pub mod Moving
+pub mod Telling

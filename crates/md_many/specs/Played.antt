@@ -1,5 +1,6 @@
 -- What the rounds of callers come to: each line once.
-use Rattle.std.specs.Prelude.{◌≡◌, ◌≤◌, ◌+◌, ◌-◌, ◌*◌, ℕ, Bool, if◌then◌else◌, List, [], ◌∷◌, length, map, flat_map}
+use Rattle.std.specs.Prelude.{◌≡◌, ◌≤◌, ◌+◌, ◌-◌, ◌*◌, ◌/◌, ◌%◌, ◌^◌, ℕ, Bool, if◌then◌else◌, List, [], ◌∷◌, length, map, flat_map}
+use Rattle.std.specs.List.{AllByRecursion}
 use Rattle.md_history.specs.declared.entries.Entry.{Entry}
 use Rattle.md_history.specs.State.{State}
 use Rattle.md_history.specs.History.{AllDecided}
@@ -48,6 +49,10 @@ pub record EachLineOnce {B R : Type 0} (m : Meaning B R) (keeps : ℕ → List R
 abbrev pub IsToldOfEach : (ℕ → ℕ) → (ℕ → ℕ → Type 0) → Type 0
 IsToldOfEach line_count told = (caller line : ℕ) → 1 ≤ line → line ≤ line_count caller → told caller line
 
+-- the gate was told of the line that each of these entries is, by its tag
+abbrev pub IsToldOf : (ℕ → ℕ → Type 0) → List Entry → Type 0
+IsToldOf told es = AllByRecursion (λ e. told (e.tag / 2 ^ 32) (e.tag % 2 ^ 32)) es
+
 -- how many lines are left, of the callers after the first so many, who have played so many lines each
 abbrev pub left_after : (ℕ → ℕ) → ℕ → List ℕ → ℕ
 left_after line_count before [] = 0
@@ -56,3 +61,7 @@ left_after line_count before (n ∷ done) = (line_count (before + 1) - n) + left
 -- a number that falls with each round, which leaves fewer lines, or as many and a worn engine
 abbrev pub rounds_left : (ℕ → ℕ) → List ℕ → Bool → ℕ
 rounds_left line_count done worn = 2 * left_after line_count 0 done + (if worn then 0 else 1)
+
+-- the fronts of engines that were renewed, and the lines that are left, together
+abbrev pub fronts_and_left : (ℕ → ℕ) → ℕ → List ℕ → ℕ
+fronts_and_left line_count fronts done = fronts + left_after line_count 0 done

@@ -1,6 +1,7 @@
 //! Rounds of callers whose engine is closed at their end.
 
-ghost use Rattle.std.specs.Prelude.{[], ℕ, map, IfOk, OnOk};
+ghost use Rattle.std.specs.Prelude.{◌≤◌, ◌+◌, [], ℕ, length, map, IfOk, OnOk};
+ghost use Rattle.md_many_attempts.specs.ByCaller.{lines_of};
 ghost use Rattle.md_many_attempts.specs.Meaning.{meaning_of};
 ghost use Rattle.md_many.specs.Tags.{IsInterleaving};
 ghost use Rattle.md_many.specs.Laws.{AreLawful, CanKeepAll, law_of};
@@ -89,6 +90,8 @@ where
         (G.after_called play.now.gate.now)) }
     ensures interleaving { IfOk result (λ r. IsInterleaving (L.line_count play.now.lines.now)
         (tags_of (committed_of (map E.front r.fronts.items)))) }
+    ensures fronts { IfOk result (λ r. length r.fronts.items
+        ≤ lines_of (L.line_count play.now.lines.now) (L.caller_count play.now.lines.now) + 1) }
 {
     let rounds = play_open_rounds(play, engine, pass, keeper)?;
     rounds.close()

@@ -1,9 +1,9 @@
 //! Rounds of callers, over any engine and any lines.
 
-ghost use Rattle.std.specs.Prelude.{◌≡◌, ◌<◌, ◌≤◌, ◌^◌, [], ℕ, length, map, replicate, true};
+ghost use Rattle.std.specs.Prelude.{◌≡◌, ◌<◌, ◌≤◌, ◌+◌, ◌^◌, [], ℕ, length, map, replicate, true};
 ghost use Rattle.std.specs.Prelude.{false, IfOk, IfSome, IfNone, OnOk};
 ghost use Rattle.md_history.specs.Engine.{empty_front};
-ghost use Rattle.md_many_attempts.specs.ByCaller.{at_caller};
+ghost use Rattle.md_many_attempts.specs.ByCaller.{at_caller, lines_of};
 ghost use Rattle.md_many_attempts.specs.Meaning.{meaning_of};
 ghost use Rattle.md_many_attempts.specs.Turns.{CanPlayTurn, HoldsAsBefore, PlaysTurn, PlaysEnough};
 ghost use Rattle.md_many.specs.Tags.{IsInterleaving};
@@ -13,7 +13,7 @@ ghost use Rattle.md_many.specs.Rounds.{AreWithin};
 ghost use Rattle.md_many.specs.Course.{CanPlay, IsInCourse, HasLineLeft, HasNoMoreLeft};
 ghost use Rattle.md_many.specs.Closed.{ClosesTo, HoldsAllLanes};
 ghost use Rattle.md_many.specs.Played.{EachLineOnce, IsToldOfEach, committed_of, tags_of};
-ghost use Rattle.md_many.specs.Played.{left_after, rounds_left};
+ghost use Rattle.md_many.specs.Played.{fronts_and_left, left_after, rounds_left};
 
 use crate::closing::OpenRounds;
 use crate::course::Course;
@@ -83,6 +83,8 @@ fn renewed<R, E: Engine, L: LawfulLines, G: Gate, K: Keeper<<L::B as Body>::Repl
     ensures fresh { course.worn ≡ true → IfOk result (λ c. E.fresh c.engine c.pass) }
     ensures empty { course.worn ≡ true → IfOk result (λ c.
         E.front c.pass ≡ empty_front (E.lanes c.engine)) }
+    ensures fronts { IfOk result (λ c. length c.fronts.items ≤ length course.fronts.items + 1) }
+    ensures kept { course.worn ≡ false → IfOk result (λ c. c.fronts ≡ course.fronts) }
 {
     let _ = play;
     let _ = keeper;
@@ -164,6 +166,7 @@ fn play_first<R, E: Engine, L: LawfulLines, G: Gate, K: Keeper<<L::B as Body>::R
     ensures fresh { E.fresh course.old.engine course.old.pass
         → E.front course.old.pass ≡ empty_front (E.lanes course.old.engine)
         → OnOk result (course.new.worn ≡ false) }
+    ensures fronts { course.new.fronts ≡ course.old.fronts }
 {
     let turn = Turn {
         caller,
@@ -215,6 +218,7 @@ where
     ensures keeper { CanKeepAll (L.suits play.now.lines.now) (K.can_keep keeper.new) }
     ensures no_more { IfOk result (λ c. HasNoMoreLeft (L.line_count play.now.lines.now)
         course.done.items c.done.items) }
+    ensures fronts { IfOk result (λ c. c.fronts ≡ course.fronts) }
 {
     let Course {
         engine,
@@ -275,6 +279,10 @@ where
     ensures callers { IfOk result (λ c. length c.done.items ≡ length course.done.items) }
     ensures less { IfOk result (λ c. rounds_left (L.line_count play.now.lines.now) c.done.items c.worn
         < rounds_left (L.line_count play.now.lines.now) course.done.items course.worn) }
+    ensures fronts { IfOk result (λ c.
+        fronts_and_left (L.line_count play.now.lines.now) (length c.fronts.items) c.done.items
+        ≤ fronts_and_left (L.line_count play.now.lines.now) (length course.fronts.items)
+        course.done.items) }
 {
     let lone = is_lone(play.lines, &course.done, caller);
     let mut course = renewed(play, course, keeper)?;
@@ -350,6 +358,8 @@ where
     ensures interleaving { IfOk result (λ r. ClosesTo (E.start r.engine)
         (map E.front r.fronts.items) (E.front r.pass) (λ fronts contents.
         IsInterleaving (L.line_count play.now.lines.now) (tags_of (committed_of fronts)))) }
+    ensures fronts { IfOk result (λ r. length r.fronts.items
+        ≤ lines_of (L.line_count play.now.lines.now) (L.caller_count play.now.lines.now)) }
 {
     fresh_is_empty(&engine, &pass);
     let mut course = Course {

@@ -1,12 +1,19 @@
 -- A turn and its last batch.
-use Rattle.std.proofs.Common.{◌≡◌, ◌+◌, ◌<◌, ◌≤◌, ◌^◌, ℕ, refl, ap, arith, inl, inr}
+use Rattle.std.proofs.Common.{◌≡◌, ◌+◌, ◌*◌, ◌<◌, ◌≤◌, ◌^◌, ◌++◌, ℕ, List, [], length, refl, arith, inl, inr}
 use Rattle.std.specs.Prelude.{◌-◌, min}
 use Rattle.std.proofs.lemmas.Bool.{cases_lt}
-use Rattle.md_history.specs.declared.stops.Stop.{Stop}
+use Rattle.std.proofs.lemmas.List.{append-nil, length-append}
+use Rattle.md_history.specs.declared.engines.Engine.{Ghosts as EngineWords}
 use Rattle.md_many_attempts.specs.declared.attempts.Turn.{Turn}
 use Rattle.md_many_attempts.specs.declared.attempts.End.{End}
 use Rattle.md_many_attempts.specs.declared.attempts.End.TheVariants.{Lines, Attempts, Limit, Conflicts}
-use Rattle.md_many_attempts.specs.Turns.{EndsBy, IsWithinAttempts}
+use Rattle.md_many_attempts.specs.declared.attempts.TheConstants.{MOST_CONFLICTS}
+use Rattle.md_many_attempts.specs.Batches.{IsCalm, HasInRow, EndsPart}
+use Rattle.md_many_attempts.specs.Lines.{PlaysLines}
+use Rattle.md_many_attempts.specs.Meaning.{Meaning}
+use Rattle.md_many_attempts.specs.Turns.{EndsBy, HasTriedInVain, IsWithinAttempts}
+use Rattle.md_many_attempts.proofs.Following.{plays-then}
+use Rattle.md_many_attempts.proofs.Playing.{played-none}
 
 -- what is so of each line up to one, and of each from there to another
 pub told-then : (P : ℕ → Type 0) (first middle last : ℕ) → ((line : ℕ) → first < line → line ≤ middle → P line)
@@ -16,38 +23,96 @@ told-then P first middle last low high line after before = elim (cases_lt middle
   | inr within ↦ low line after within
 ]
 
--- a turn ends by what its last batch ends by, unless the batch has no attempt left
-pub ends-then : (line_count : ℕ → ℕ) (may_stop : Stop → Type 0) (turn part : Turn) (before played begun begun' begun'' : ℕ)
-    (end : End) → part.caller ≡ turn.caller → part.done ≡ turn.done + before → begun + before ≤ begun'
-    → (end ≡ Attempts → ⊥) → EndsBy line_count may_stop part played begun' begun'' end
-    → EndsBy line_count may_stop turn (before + played) begun begun'' end
-ends-then line_count may_stop turn part before played begun begun' begun'' Lines same at each other ends =
-    let whole : part.done + played ≡ line_count part.caller = ends in
-    omega (arith, at, whole, ap line_count same)
-ends-then line_count may_stop turn part before played begun begun' begun'' Attempts same at each other ends =
-    absurd (other refl)
-ends-then line_count may_stop turn part before played begun begun' begun'' (Limit limit) same at each other ends = ends
-ends-then line_count may_stop turn part before played begun begun' begun'' Conflicts same at each other ends =
-    (omega (arith, each, ends.0), ends.1)
+module _ {E P B R : Type 0} (e : EngineWords E P) (engine : E) (m : Meaning B R) (turn : Turn) (old : P) where
+  -- no attempt was made yet
+  pub vain-none : (replies : List R) (conflicts : ℕ) → e.of engine old → replies ≡ [] → conflicts ≡ 0
+      → HasTriedInVain e engine m turn old old replies conflicts
+  vain-none replies conflicts of none zero = record {
+    point = old;
+    of = of;
+    played = rw none (played-none m turn.caller turn.done (e.front old)).plays;
+    since = omega (arith, zero);
+  }
 
--- the counts of a turn that has ended
-pub record HasCounted (turn : Turn) (count played tried first last : ℕ) : Type 0 where
+  -- a turn that is one batch ends by what this ends by
+  pub ends-alone : (before after : ℕ) (new : P) (replies : List R) (end : End) → e.of engine old → before ≡ 0
+      → EndsPart e engine m turn before old new replies end after
+      → EndsBy e engine m turn old new replies end
+  ends-alone before after new replies Lines of zero ends = ends
+  ends-alone before after new replies Attempts of zero ends = ends.all
+  ends-alone before after new replies (Limit limit) of zero ends = ends
+  ends-alone before after new replies Conflicts of zero ends = (
+    elim ends.0 [
+      | inl none ↦ record {
+        point = old;
+        of = of;
+        played = rw none.0 (played-none m turn.caller turn.done (e.front old)).plays;
+        since = omega (arith, none.1, zero);
+      }
+      | inr some ↦ some
+    ],
+    ends.1,
+  )
+
+  module _ (done attempts before : ℕ) (was new : P) (rs ss : List R)
+      (plays : PlaysLines m turn.caller turn.done (e.front old).lanes (e.front old) (e.front was) rs)
+      (same : (e.front was).lanes ≡ (e.front old).lanes) (fated : length (e.front was).known ≡ length (e.front was).seen)
+      (at : done ≡ turn.done + length rs)
+      (vain : HasTriedInVain e engine m turn old was rs before) where
+    abbrev part : Turn
+    part = record { caller = turn.caller; done = done; attempts = attempts }
+
+    -- conflicts in a row go on from batch to batch
+    pub vain-then : (conflicts : ℕ) → HasInRow e engine m part before was new ss conflicts
+        → HasTriedInVain e engine m turn old new (rs ++ ss) conflicts
+    vain-then conflicts row = elim row [
+      | inl none ↦ record {
+        point = vain.point;
+        of = vain.of;
+        played = rw (none.0, append-nil) vain.played;
+        since = omega (arith, vain.since, none.1);
+      }
+      | inr some ↦ record {
+        point = some.point;
+        of = some.of;
+        played = plays-then m turn.caller turn.done done (e.front old) (e.front was) (e.front some.point) rs ss plays
+            same some.played fated at;
+        since = some.since;
+      }
+    ]
+
+    -- a turn ends by what its last batch ends by, unless the batch has no attempt left
+    pub ends-then : (after : ℕ) (end : End) → (end ≡ Attempts → ⊥) → EndsPart e engine m part before was new ss end after
+        → EndsBy e engine m turn old new (rs ++ ss) end
+    ends-then after Lines other ends =
+        let whole : done + length ss ≡ m.line_count turn.caller = ends in
+        omega (arith, at, whole, length-append rs ss)
+    ends-then after Attempts other ends = absurd (other refl)
+    ends-then after (Limit limit) other ends = ends
+    ends-then after Conflicts other ends = (vain-then MOST_CONFLICTS ends.0, ends.1)
+
+-- the counts of a batch that has ended
+pub record HasCounted (turn : Turn) (before count played tried first last : ℕ) : Type 0 where
   pub within : turn.done + played ≤ count
   pub few : turn.done + played < 2 ^ 32
   pub attempts : tried ≤ turn.attempts
   pub begun : IsWithinAttempts turn played first last
+  pub calm : IsCalm before first last played
 
 -- by the counts before its last attempt, if that made any
-pub has-counted : (turn : Turn) (count played conflicts tried made now met begun was begun' : ℕ)
-    → turn.done + played ≤ count → count < 2 ^ 32 → played + conflicts ≤ tried → was ≡ begun + tried
-    → now ≡ tried + made → now ≤ turn.attempts → met ≤ now → (was ≤ begun') × (begun' ≤ was + made)
-    → HasCounted turn count played met begun begun'
-has-counted turn count played conflicts tried made now met begun was begun' within few each counted is left seen more =
+pub has-counted : (turn : Turn) (before count played conflicts tried made now met begun was begun' : ℕ)
+    → turn.done + played ≤ count → count < 2 ^ 32 → played ≤ tried → conflicts < MOST_CONFLICTS
+    → before + tried ≤ MOST_CONFLICTS * played + conflicts → was ≡ begun + tried
+    → now ≡ tried + made → made ≤ 1 → now ≤ turn.attempts → met ≤ now → (was ≤ begun') × (begun' ≤ was + made)
+    → HasCounted turn before count played met begun begun'
+has-counted turn before count played conflicts tried made now met begun was begun' within few each calm most counted is
+    one left seen more =
     record {
       within = omega arith;
       few = omega arith;
       attempts = omega arith;
-      begun = record { each = omega (arith, more.0); most = omega (arith, more.1) };
+      begun = record { each = omega (arith, more.0); most = omega (arith, more.1); calm = omega (arith, more.1) };
+      calm = omega (arith, more.1);
     }
 
 -- where each attempt played a line and the turn has no attempt left, it played as many lines as it can

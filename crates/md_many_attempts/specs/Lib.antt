@@ -3,6 +3,7 @@ pub mod Meaning
 pub mod Joined
 pub mod Lines
 pub mod Turns
+pub mod Batches
 pub mod Steps
 pub mod Until
 pub mod ByCaller

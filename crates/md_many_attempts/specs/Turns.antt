@@ -1,10 +1,9 @@
 -- A caller's turn: what it asks for, what it leaves, and when it ends.
-use Rattle.std.specs.Prelude.{◌≡◌, ◌<◌, ◌≤◌, ◌+◌, ◌-◌, ◌^◌, ℕ, min, List, [], length, Vec, vec_capacity, Result, IfOk, OnErr}
+use Rattle.std.specs.Prelude.{◌≡◌, ◌<◌, ◌≤◌, ◌+◌, ◌-◌, ◌*◌, ◌^◌, ℕ, min, List, [], length, Vec, vec_capacity, Result, IfOk, OnErr}
 use Rattle.std.specs.declared.alloc.AllocError.{AllocError}
 use Rattle.std.specs.declared.alloc.Global.{Global}
 use Rattle.md_history.specs.declared.engines.Engine.{Ghosts as EngineWords}
 use Rattle.md_history.specs.declared.stops.Shown.{Shown}
-use Rattle.md_history.specs.declared.stops.Stop.{Stop}
 use Rattle.md_history.specs.declared.stops.Stop.TheVariants as stop
 use Rattle.md_history.specs.State.{State}
 use Rattle.md_history.specs.Engine.{bounds_in}
@@ -37,10 +36,12 @@ pub record HoldsAsBefore {E P : Type 0} (e : EngineWords E P) (engine : E) (old 
   pub lanes : (e.front new).lanes ≡ (e.front old).lanes
   pub pending : (e.front new).pending ≡ (e.front old).pending
 
--- a pass began an attempt at least for each line that was played, and no more than the turn has
+-- a pass began an attempt at least for each line that was played, and no more than the turn has, nor more than so many
+-- for each line and after the last one
 pub record IsWithinAttempts (turn : Turn) (played begun begun' : ℕ) : Type 0 where
   pub each : begun + played ≤ begun'
   pub most : begun' ≤ begun + turn.attempts
+  pub calm : begun' ≤ begun + MOST_CONFLICTS * (played + 1)
 
 -- From one state of a pass to another a turn was played, with these replies: the lanes committed the caller's next
 -- lines, and no more than there are; they made no more attempts than the turn has; and the gate was told of each line.
@@ -62,17 +63,26 @@ pub record PlaysEnough {E P B R : Type 0} (e : EngineWords E P) (engine : E) (m 
       → 1 ≤ most_lines m turn → 1 ≤ played
   pub steady : StopsForMemory (e.may_stop engine) → played ≡ most_lines m turn
 
--- Why a turn ended: the caller has no line left; the turn has no attempt left; the engine's limit may come; or so many
--- attempts that played no line met conflicts, which may come.
-abbrev pub EndsBy : (ℕ → ℕ) → (Stop → Type 0) → Turn → ℕ → ℕ → ℕ → End → Type 0
-EndsBy line_count may_stop turn played begun begun' Lines = turn.done + played ≡ line_count turn.caller
-EndsBy line_count may_stop turn played begun begun' Attempts = begun' ≡ begun + turn.attempts
-EndsBy line_count may_stop turn played begun begun' (Limit limit) = may_stop (stop.Limit limit)
-EndsBy line_count may_stop turn played begun begun' Conflicts =
-    (begun + played + MOST_CONFLICTS ≤ begun') × ((shown : Shown) × may_stop (stop.Conflict shown))
+-- all of a turn's lines had been played at a point, and so many attempts were begun since: none of them played a line
+pub record HasTriedInVain {E P B R : Type 0} (e : EngineWords E P) (engine : E) (m : Meaning B R) (turn : Turn)
+    (old new : P) (replies : List R) (attempts : ℕ) : Type 0 where
+  pub point : P
+  pub of : e.of engine point
+  pub played : PlaysLines m turn.caller turn.done (e.front old).lanes (e.front old) (e.front point) replies
+  pub since : e.begun new ≡ e.begun point + attempts
 
--- of a turn that played so many lines, `Ok` says why it ended, and `Err` that the engine may run out of memory
+-- Why a turn with these replies ended: the caller has no line left; the turn has no attempt left; the engine's limit may
+-- come; or its last attempts, so many in a row, played no line, and conflicts may come.
+abbrev pub EndsBy : {E P B R : Type 0} → EngineWords E P → E → Meaning B R → Turn → P → P → List R → End → Type 0
+EndsBy e engine m turn old new replies Lines = turn.done + length replies ≡ m.line_count turn.caller
+EndsBy e engine m turn old new replies Attempts = e.begun new ≡ e.begun old + turn.attempts
+EndsBy e engine m turn old new replies (Limit limit) = e.may_stop engine (stop.Limit limit)
+EndsBy e engine m turn old new replies Conflicts =
+    HasTriedInVain e engine m turn old new replies MOST_CONFLICTS
+    × ((shown : Shown) × e.may_stop engine (stop.Conflict shown))
+
+-- of a turn with these replies, `Ok` says why it ended, and `Err` that the engine may run out of memory
 pub record EndsTurn {E P B R : Type 0} (e : EngineWords E P) (engine : E) (m : Meaning B R) (turn : Turn) (old new : P)
-    (played : ℕ) (result : Result End AllocError) : Type 0 where
-  pub end : IfOk result (EndsBy m.line_count (e.may_stop engine) turn played (e.begun old) (e.begun new))
+    (replies : List R) (result : Result End AllocError) : Type 0 where
+  pub end : IfOk result (EndsBy e engine m turn old new replies)
   pub no_memory : OnErr result (e.may_stop engine stop.NoMemory)

@@ -1,16 +1,17 @@
 //! Attempts at lines, over any store.
 
-ghost use Rattle.std.specs.Prelude.{◌≤◌, length, vec_capacity, OnOk};
+ghost use Rattle.std.specs.Prelude.{◌<◌, ◌≤◌, length, vec_capacity, OnOk};
 ghost use Rattle.md_history.specs.Attempt.{CountsAttempt, IfCommitted, IfStopped, IsAtomic};
 ghost use Rattle.md_many_attempts.specs.Tags.{tag_of};
 ghost use Rattle.md_many_attempts.specs.Meaning.{meaning_of};
 ghost use Rattle.md_many_attempts.specs.Turns.{CanPlayTurn, IsRoomFor, HoldsAsBefore, PlaysTurn};
 ghost use Rattle.md_many_attempts.specs.Turns.{PlaysEnough, EndsTurn};
+ghost use Rattle.md_many_attempts.specs.Batches.{IsCalm, EndsBatch};
 ghost use Rattle.md_many_attempts.specs.Until.{MayStop};
 
 use crate::callers::Lines;
 use crate::gates::Gate;
-use crate::pauses::pause;
+use crate::pauses::Streak;
 use crate::steps::{Place, after_stop, next_line, try_line};
 use crate::tags::line_tag;
 use md_history::{Attempt, Body, Engine, Limit, Stop, pass_is_legal};
@@ -38,6 +39,13 @@ pub enum End {
     Limit(Limit),
     /// `MOST_CONFLICTS` attempts, one after another, met a conflict.
     Conflicts,
+}
+
+/// A part of a turn, and the conflicts in a row before it.
+#[derive(Clone, Copy)]
+pub(crate) struct Batch {
+    pub(crate) turn: Turn,
+    pub(crate) streak: Streak,
 }
 
 /// How many conflicts in a row end a turn.
@@ -84,7 +92,8 @@ pub fn attempt_line<E: Engine, B: Body, G: Gate>(
 /// own.
 ///
 /// After a conflict it pauses for a random number of turns of the spin hint, below 2^n after n
-/// conflicts in a row and below 4,096. No clause speaks of time.
+/// conflicts in a row and below 4,096. No clause speaks of time. The turn begins at most
+/// `MOST_CONFLICTS` attempts for each line that it plays, and as many after the last one.
 ///
 /// It returns `AllocError` if an attempt of the engine runs out of memory. This ends the turn too.
 /// In every case the lanes of the pass committed exactly the lines whose replies are in `replies`,
@@ -107,16 +116,50 @@ pub fn attempt_lines<E: Engine, L: Lines, G: Gate>(
     ensures enough { OnOk result (PlaysEnough E.Engine engine.now
         (meaning_of L.B.Body L.Lines lines.now) turn pass.old (length replies.new.items)) }
     ensures end { EndsTurn E.Engine engine.now (meaning_of L.B.Body L.Lines lines.now) turn
-        pass.old pass.new (length replies.new.items) result }
+        pass.old pass.new replies.new.items result }
+    ensures room { vec_capacity replies.old ≤ vec_capacity replies.new }
+{
+    let streak = Streak::new(line_tag(turn.caller, turn.done));
+    let batch = Batch { turn, streak };
+    let (end, _) = attempt_batch(engine, pass, lines, batch, gate, replies)?;
+    Ok(end)
+}
+
+/// Plays a part of a turn, as `attempt_lines` plays a turn, but that it counts conflicts in a row
+/// from those of the batch. Beside the cause it returns the conflicts in a row at the end.
+pub(crate) fn attempt_batch<E: Engine, L: Lines, G: Gate>(
+    engine: &E,
+    pass: &mut E::Pass,
+    lines: &L,
+    batch: Batch,
+    gate: &G,
+    replies: &mut Vec<<L::B as Body>::Reply>,
+) -> Result<(End, Streak), AllocError>
+    requires of { E.of engine.now pass.old }
+    requires turn { CanPlayTurn (meaning_of L.B.Body L.Lines lines.now) (E.start engine.now) batch.turn }
+    requires replies { IsRoomFor (meaning_of L.B.Body L.Lines lines.now) batch.turn replies.old }
+    requires calm { batch.streak.conflicts < MOST_CONFLICTS }
+    ensures pass { HoldsAsBefore E.Engine engine.now pass.old pass.new }
+    ensures turn { PlaysTurn E.Engine (meaning_of L.B.Body L.Lines lines.now)
+        (G.after_called gate.now) batch.turn pass.old pass.new replies.new.items }
+    ensures calm { IsCalm batch.streak.conflicts (E.begun pass.old) (E.begun pass.new)
+        (length replies.new.items) }
+    ensures enough { OnOk result (PlaysEnough E.Engine engine.now
+        (meaning_of L.B.Body L.Lines lines.now) batch.turn pass.old (length replies.new.items)) }
+    ensures end { EndsBatch E.Engine engine.now (meaning_of L.B.Body L.Lines lines.now) batch
+        pass.old pass.new replies.new.items result }
     ensures room { vec_capacity replies.old ≤ vec_capacity replies.new }
 {
     pass_is_legal(engine, pass);
+    let Batch { turn, streak } = batch;
+    let Streak {
+        mut conflicts,
+        mut random,
+    } = streak;
     let count = lines.len(turn.caller);
-    let mut conflicts = 0;
-    let mut random = line_tag(turn.caller, turn.done);
     'attempts: for tried in 0..turn.attempts {
         let Some(line) = next_line(turn.done, replies.len(), count) else {
-            return Ok(End::Lines);
+            return Ok((End::Lines, Streak { conflicts, random }));
         };
         let place = Place {
             caller: turn.caller,
@@ -125,12 +168,11 @@ pub fn attempt_lines<E: Engine, L: Lines, G: Gate>(
         match try_line(engine, pass, lines, place, gate, replies) {
             None => conflicts = 0,
             Some(stop) => {
-                if let Some(end) = after_stop(stop, &mut conflicts)? {
-                    return Ok(end);
+                if let Some(end) = after_stop(stop, &mut conflicts, &mut random)? {
+                    return Ok((end, Streak { conflicts, random }));
                 }
-                random = pause(random, conflicts);
             }
         }
     }
-    Ok(End::Attempts)
+    Ok((End::Attempts, Streak { conflicts, random }))
 }

@@ -1,13 +1,15 @@
 //! A caller's turn, batch by batch.
 
-ghost use Rattle.std.specs.Prelude.{length, IfOk};
+ghost use Rattle.std.specs.Prelude.{IfOk};
 ghost use Rattle.md_many_attempts.specs.Meaning.{meaning_of};
 ghost use Rattle.md_many_attempts.specs.Turns.{CanPlayTurn, HoldsAsBefore, PlaysTurn, EndsBy};
 
-use crate::attempts::{End, Turn, attempt_lines};
+use crate::attempts::{Batch, End, Turn, attempt_batch};
 use crate::callers::Lines;
 use crate::gates::Gate;
+use crate::pauses::Streak;
 use crate::reply_lists::ReplyList;
+use crate::tags::line_tag;
 use md_history::{Body, Engine, pass_is_legal};
 use std::alloc::{AllocError, Global};
 
@@ -22,10 +24,11 @@ pub struct Played<T> {
     pub replies: T,
 }
 
-/// Plays a caller's turn in batches of at most 128 attempts (`attempt_lines`). The replies of each
-/// batch have a vector of their own, which is then appended to the list of the turn. The turn
-/// ends with a batch that has an attempt left, or with the last of `turn.attempts`. The result says
-/// why the turn ended. Of the engine, the lines and `turn.done` it needs what `attempt_lines` does.
+/// Plays a caller's turn in batches of at most 128 attempts, each like `attempt_lines`. Conflicts in
+/// a row are counted from batch to batch. The replies of each batch have a vector of their own,
+/// which is then appended to the list of the turn. The turn ends with a batch that has an attempt
+/// left, or with the last of `turn.attempts`. The result says why the turn ended. Of the engine, the
+/// lines and `turn.done` it needs what `attempt_lines` does.
 ///
 /// A batch takes room for its replies at once: the smaller of its attempts and of the lines left.
 ///
@@ -49,8 +52,8 @@ where
     ensures pass { HoldsAsBefore E.Engine engine.now pass.old pass.new }
     ensures turn { IfOk result (λ p. PlaysTurn E.Engine (meaning_of L.B.Body L.Lines lines.now)
         (G.after_called gate.now) turn pass.old pass.new (T.listed p.replies)) }
-    ensures end { IfOk result (λ p. EndsBy (L.line_count lines.now) (E.may_stop engine.now) turn
-        (length (T.listed p.replies)) (E.begun pass.old) (E.begun pass.new) p.end) }
+    ensures end { IfOk result (λ p. EndsBy E.Engine engine.now
+        (meaning_of L.B.Body L.Lines lines.now) turn pass.old pass.new (T.listed p.replies) p.end) }
 {
     pass_is_legal(engine, pass);
     let count = lines.len(turn.caller);
@@ -58,16 +61,19 @@ where
     let mut replies = T::new(alloc);
     let mut done = turn.done;
     let mut left = turn.attempts;
+    let mut streak = Streak::new(line_tag(caller, done));
     'batches: while left > 0 {
         let attempts = left.min(BATCH);
-        let part = Turn {
+        let turn = Turn {
             caller,
             done,
             attempts,
         };
+        let part = Batch { turn, streak };
         let mut batch = Vec::with_capacity(alloc, attempts.min(count - done) as usize)?;
-        let end = attempt_lines(engine, pass, lines, part, gate, &mut batch)?;
+        let (end, after) = attempt_batch(engine, pass, lines, part, gate, &mut batch)?;
         pass_is_legal(engine, pass);
+        streak = after;
         done += batch.len() as u32;
         left -= attempts;
         replies.append(batch)?;

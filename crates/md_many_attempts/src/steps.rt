@@ -9,6 +9,7 @@ ghost use Rattle.md_many_attempts.specs.Steps.{IsAnotherConflict, EndsOn};
 use crate::attempts::{End, MOST_CONFLICTS};
 use crate::callers::Lines;
 use crate::gates::Gate;
+use crate::pauses::pause;
 use crate::tags::line_tag;
 use md_history::{Attempt, Body, Engine, Stop};
 use std::alloc::AllocError;
@@ -88,9 +89,13 @@ pub(crate) fn try_line<E: Engine, L: Lines, G: Gate>(
 }
 
 /// What follows a stop: `None` if the line is attempted again, since it met a conflict, and not so
-/// many in a row that they end the turn. Otherwise the end of the turn.
+/// many in a row that they end the turn. Then it has paused. Otherwise the end of the turn.
 #[inline(always)]
-pub(crate) fn after_stop(stop: Stop, conflicts: &mut u32) -> Result<Option<End>, AllocError>
+pub(crate) fn after_stop(
+    stop: Stop,
+    conflicts: &mut u32,
+    random: &mut u64,
+) -> Result<Option<End>, AllocError>
     requires { conflicts.old < MOST_CONFLICTS }
     ensures again { IfOk result (λ end.
         IfNone end (IsAnotherConflict stop conflicts.old conflicts.new)) }
@@ -98,11 +103,12 @@ pub(crate) fn after_stop(stop: Stop, conflicts: &mut u32) -> Result<Option<End>,
     ensures no_memory { OnErr result (stop ≡ Stop.NoMemory) }
 {
     match stop {
-        Stop::Conflict(_) => {
+        Stop::Conflict(shown) => {
             *conflicts += 1;
             if *conflicts == MOST_CONFLICTS {
                 return Ok(Some(End::Conflicts));
             }
+            *random = pause(*random, *conflicts, shown);
             Ok(None)
         }
         Stop::Limit(limit) => Ok(Some(End::Limit(limit))),

@@ -1,19 +1,22 @@
 //! Attempts at one body until it is committed.
 
-ghost use Rattle.std.specs.Prelude.{◌≡◌, ◌≤◌, length, true, false};
+ghost use Rattle.std.specs.Prelude.{◌≤◌, length, IfSome, IfNone};
 ghost use Rattle.md_history.specs.Attempt.{IfStopped};
 ghost use Rattle.md_many_attempts.specs.Until.{IsAtomicAtLast, HasBegun, MayStop, MeetsConflict};
 
 use crate::pauses::pause;
-use md_history::{Attempt, Body, Engine, Stop, pass_is_legal};
+use md_history::{Attempt, Body, Engine, Shown, Stop, pass_is_legal};
 
-// Whether an attempt met a conflict. Nothing else lets the body be attempted again.
+// What an attempt met that met a conflict. Nothing else lets the body be attempted again.
 #[inline(always)]
-fn is_conflict<R>(attempt: &Attempt<R>) -> bool
-    ensures conflict { result ≡ true → MeetsConflict attempt.now }
-    ensures other { result ≡ false → MeetsConflict attempt.now → ⊥ }
+fn conflict_of<R>(attempt: &Attempt<R>) -> Option<Shown>
+    ensures conflict { IfSome result (λ _. MeetsConflict attempt.now) }
+    ensures other { IfNone result (MeetsConflict attempt.now → ⊥) }
 {
-    matches!(attempt, Attempt::Stopped(Stop::Conflict(_)))
+    match attempt {
+        Attempt::Stopped(Stop::Conflict(shown)) => Some(*shown),
+        Attempt::Stopped(Stop::Limit(_) | Stop::NoMemory) | Attempt::Committed(_) => None,
+    }
 }
 
 /// Attempts a body until it is committed, under one tag, which may be any number. `most` is the
@@ -49,10 +52,10 @@ pub fn attempt_until_committed<E: Engine, B: Body>(
     let mut random = tag;
     'attempts: for tried in 0..most - 1 {
         let end = engine.attempt(pass, tag, body);
-        if !is_conflict(&end) {
+        let Some(shown) = conflict_of(&end) else {
             return end;
-        }
-        random = pause(random, tried + 1);
+        };
+        random = pause(random, tried + 1, shown);
     }
     engine.attempt(pass, tag, body)
 }

@@ -36,8 +36,8 @@ pub(crate) struct Refusing<'a> {
     attempts: &'a AtomicU64,
 }
 
-// Its pass, with the stops that attempts of a shared store answer, one after another; `None` is an
-// attempt of the store.
+// Its pass, with the stops that attempts of a shared store answer, one after another, and the last
+// one again and again; `None` is an attempt of the store.
 #[derive(Drop)]
 pub(crate) struct RefusingPass {
     pub(crate) pass: PlainPass,
@@ -109,8 +109,8 @@ impl<'a> Engine for Refusing<'a> {
         }
         pass.begun = number + 1;
         self.attempts.fetch_add(1, Ordering::SeqCst);
-        if self.shared && number < 4 {
-            if let Some(stop) = pass.stops[number] {
+        if self.shared {
+            if let Some(stop) = pass.stops[number.min(3)] {
                 return Attempt::Stopped(stop);
             }
         }

@@ -67,7 +67,8 @@ fn body_ends<R: Abort + AllocGlobal>(
 fn one_body_until_committed(rt: HostRuntime) {
     body_ends(&rt, &[None; 4], 1, None, 1);
     body_ends(&rt, &[CONFLICT, CONFLICT, None, None], u32::MAX, None, 3);
-    body_ends(&rt, &[CONFLICT; 4], 5, None, 5);
+    body_ends(&rt, &[CONFLICT, CONFLICT, CONFLICT, None], 5, None, 4);
+    body_ends(&rt, &[CONFLICT; 4], 1_000, CONFLICT, 1_000);
     body_ends(&rt, &[CONFLICT, CONFLICT, LATER, None], 3, LATER, 3);
     body_ends(&rt, &[CONFLICT; 4], 1, CONFLICT, 1);
     body_ends(&rt, &[CONFLICT, LIMIT, None, None], u32::MAX, LIMIT, 2);

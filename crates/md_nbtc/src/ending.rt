@@ -46,9 +46,10 @@ impl<'a, T: Theory> Txn<'a, T> {
     /// Makes the transaction ready: it joins the history, by certificates of its operations. No
     /// operation is begun, and none of its calls returned a stop.
     ///
-    /// It returns `NotReady` exactly if another pass has aborted the transaction. The transaction is
-    /// then stopped as by `stop`. `shown` has its status word, before and after the abort. Another
-    /// pass is live then. The refusal holds the pass until it is dropped. It takes no memory.
+    /// It returns `NotReady` exactly if another pass has aborted the transaction. The transaction
+    /// is then stopped as by `stop`. `shown` has its status word, before and after the abort.
+    /// Another pass is live then. The refusal holds the pass until it is dropped. It takes no
+    /// memory.
     ///
     /// It takes one step. If it is refused, it takes one more, and one for each word that it wrote.
     pub fn ready(self) -> Result<Ready<'a, T>, NotReady<'a, T>>
@@ -208,7 +209,8 @@ impl<'a, T: Theory> Ready<'a, T> {
         ensures committed { IfOk result (λ receipt. (e : HasEntry (ready_state self.entry))
             × CommitsTransaction T.meaning (ready_state self.entry) e self.exit.0.now
             × (receipt ≡ receipt_of (ready_state self.entry))) }
-        ensures aborted { IfErr result (λ shown. Aborts T.meaning (ready_state self.entry) self.exit.0.now
+        ensures aborted { IfErr result (λ shown.
+            Aborts T.meaning (ready_state self.entry) self.exit.0.now
             × IsShown (ready_state self.entry) self.exit.0.now shown
             × TellsWhy (ready_state self.entry) self.exit.0.now shown) }
     {

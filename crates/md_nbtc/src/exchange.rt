@@ -135,8 +135,8 @@ impl<'a, T: Theory> Txn<'a, T> {
     // Whether the word is the next word of one of the transaction's nodes.
     fn is_own_next(&self, word: u32) -> bool
         requires going { IsUnderWay T.meaning (state self.now) }
-        ensures { result ≡ list_any (is_next_word (shape_in (state self.now)) word) (map (λ n. n.node)
-            (state self.now).nodes) }
+        ensures { result ≡ list_any (is_next_word (shape_in (state self.now)) word)
+            (map (λ n. n.node) (state self.now).nodes) }
     {
         for i in 0..self.sets.lots.len() {
             if self.is_next_in(self.sets.lots.get(i), word) {
@@ -188,7 +188,8 @@ impl<'a, T: Theory> Txn<'a, T> {
     // The limit that refuses it.
     fn limit(&self, word: u32, count: u32, critical: bool) -> Option<Stop>
         ensures { (from : Seen) → from.count ≡ count
-            → result ≡ refusal_by (case_by_count critical (length self.now.sets.now.slots) count) word from }
+            → result ≡ refusal_by (case_by_count critical (length self.now.sets.now.slots) count)
+            word from }
     {
         if critical && self.sets.slots.len() == SET {
             return Some(Stop::Limit(Limit::Writes));

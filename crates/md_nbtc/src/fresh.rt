@@ -12,8 +12,8 @@ use md_machine::Theory;
 use md_nbtc_law::{Lot, WORN};
 use md_words::Content;
 
-// The quotient of two numbers, where one is likely. It is tried first, since a division takes longer
-// than all else that `fresh` computes.
+// The quotient of two numbers, where one is likely. It is tried first, since a division takes
+// longer than all else that `fresh` computes.
 fn quotient(past: u32, by: u32, likely: u32) -> u32
     requires { 0 < by }
     ensures { result ≡ past / by }

@@ -53,10 +53,10 @@ impl<'a, T: Theory> Txn<'a, T> {
     /// Returns what a word stands for. If the transaction wrote the word, this is its new value
     /// there. If the word holds an even content, this is its value. If another's descriptor stands
     /// there, the word is looked at again, at most 300 times with short pauses between, and the
-    /// descriptor is taken out by `md_help::clear` if it stands there still. After a write, it looks
-    /// at most 60 times at a descriptor of a higher number than its own: two transactions may each
-    /// hold a word that the other wants, and then the one of the lower number goes on soon. It takes
-    /// no memory.
+    /// descriptor is taken out by `md_help::clear` if it stands there still. After a write, it
+    /// looks at most 60 times at a descriptor of a higher number than its own: two transactions may
+    /// each hold a word that the other wants, and then the one of the lower number goes on soon. It
+    /// takes no memory.
     ///
     /// The transaction is under way, and the word is a counted one. The call returns a conflict if
     /// the own descriptor isn't any more where it was installed, or if a descriptor was found again

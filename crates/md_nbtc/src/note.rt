@@ -49,8 +49,8 @@ impl<'a, T: Theory> Txn<'a, T> {
         ensures pass { self.new.pass.ghost_name ≡ self.old.pass.ghost_name }
         ensures on { GoesOn T.meaning (state self.old) (state self.new) }
         ensures noted { AfterStop (state self.old).stop (state self.old) (state self.new) result
-            (Notes (note_case (state self.old) word seen) (state self.old) (state self.new) word seen
-            result) }
+            (Notes (note_case (state self.old) word seen) (state self.old) (state self.new) word
+            seen result) }
         ensures given { KeepsGiven (state self.old) (state self.new) word }
         ensures gave { Gave (state self.new) word seen }
     {

@@ -11,7 +11,8 @@ ghost use Rattle.md_machine.specs.events.Uninstall.{IsDecided};
 ghost use Rattle.md_rule.specs.Views.{IsOf};
 ghost use Rattle.md_help.specs.After.{StandsInField};
 ghost use Rattle.md_nbtc_law.specs.Deciding.{IsFateFound, MayDecide, DecidesDescriptor, Validates};
-ghost use Rattle.md_nbtc_law.specs.Ending.{Aborts, CommitsTransaction, HasEntry, IsReady, IsShown, TellsWhy};
+ghost use Rattle.md_nbtc_law.specs.Ending.{Aborts, CommitsTransaction, HasEntry, IsReady};
+ghost use Rattle.md_nbtc_law.specs.Ending.{IsShown, TellsWhy};
 ghost use Rattle.md_nbtc_sets.specs.Deciding.{IsInProgress, state_by};
 
 use crate::sets::{Reads, Sets};

@@ -14,8 +14,8 @@ use md_rule::{Field, Pass};
 use md_words::Content;
 use std::hint::spin_loop;
 
-// So often one of a higher number is, by a transaction whose own descriptor stands in a word. If two
-// transactions each hold a word that the other wants, one of them soon gives way.
+// So often one of a higher number is, by a transaction whose own descriptor stands in a word. If
+// two transactions each hold a word that the other wants, one of them soon gives way.
 const FEW_LOOKS: u32 = 60;
 
 // A pause between two looks is at most so long, in turns of the spin hint.
@@ -27,7 +27,8 @@ fn pause(turns: u32) {
     }
 }
 
-// How often another's descriptor is looked at again. `holding` is the own one, if it stands in a word.
+// How often another's descriptor is looked at again. `holding` is the own one, if it stands in a
+// word.
 fn patience(holding: Option<u32>, other: u32) -> u32
     ensures { (1 ≤ result) × (result ≤ LOOKS) }
 {

@@ -7,7 +7,7 @@ ghost use Rattle.md_machine.specs.declared.step.TheConstants.{LAST_COUNT};
 ghost use Rattle.md_machine.specs.Certified.{is_written};
 ghost use Rattle.md_nbtc_law.specs.Telling.{MayTell, read_count, write_count};
 
-use crate::sets::{Reads, Slots};
+use crate::sets::{ROOM, Reads, Slots};
 use md_machine::Read;
 use md_words::Content;
 use std::marker::Model;
@@ -17,18 +17,19 @@ const NO_STAMP: (u32, u32) = (0, 0);
 // Words with their counts, in order.
 #[derive(Drop)]
 struct Stamps {
-    items: [(u32, u32); 128],
+    items: [(u32, u32); ROOM],
     count: u8,
 }
 
 impl Model for Stamps {
+    ghost use Rattle.md_words.specs.declared.limits.TheConstants.{SET};
     ghost use Rattle.std.specs.Prelude.{◌≡◌, ℕ, List, take, ◌≤◌, length};
 
     ghost Value = { List (ℕ × ℕ) };
 
     ghost view = { λ r. take r.count r.items };
 
-    ghost invariant = { λ r. (r.count ≤ 128) × (length r.items ≡ 128) };
+    ghost invariant = { λ r. (r.count ≤ SET) × (length r.items ≡ SET) };
 }
 
 impl Stamps {
@@ -36,7 +37,7 @@ impl Stamps {
         ensures { result ≡ [] }
     {
         Stamps {
-            items: [NO_STAMP; 128],
+            items: [NO_STAMP; ROOM],
             count: 0,
         }
     }

@@ -4,7 +4,7 @@
 ghost use Rattle.std.specs.Prelude.{◌≡◌, ◌==◌, ◌<◌, [], ◌∷◌, ◌++◌, length, get_or, map, None};
 ghost use Rattle.std.specs.Prelude.{false};
 ghost use Rattle.std.specs.List.{list_any};
-ghost use Rattle.md_words.specs.declared.limits.TheConstants.{SET};
+ghost use Rattle.md_words.specs.declared.limits.TheConstants.{LANES, SET};
 ghost use Rattle.md_machine.specs.Certified.{content_read};
 ghost use Rattle.md_nbtc_law.specs.declared.slots.TheConstants.{NO_LOT, NO_READ, NO_SLOT};
 ghost use Rattle.md_nbtc_law.specs.Cleaning.{with_cleanup};
@@ -14,9 +14,12 @@ ghost use Rattle.md_nbtc_sets.specs.Sets.{no_sets};
 use crate::marks::Marks;
 use md_machine::Read;
 use md_nbtc_law::{Cleanup, Lot, NO_LOT, NO_READ, NO_SLOT, Slot};
+use md_words::{LANES, SET};
 use std::marker::Model;
 
-const ROOM: usize = 128;
+pub(crate) const ROOM: usize = SET as usize;
+
+const LOTS: usize = LANES as usize;
 
 /// The recorded words with what was found there. Contracts see them as a list.
 #[derive(Drop)]
@@ -27,6 +30,7 @@ pub struct Reads {
 }
 
 impl Model for Reads {
+    ghost use Rattle.md_words.specs.declared.limits.TheConstants.{SET};
     ghost use Rattle.std.specs.Prelude.{◌≡◌, List, take, map, ◌≤◌, length};
     ghost use Rattle.md_nbtc_sets.specs.Marks.{AreMarked};
     ghost use Rattle.md_machine.specs.declared.attempt.Read.{Read};
@@ -35,7 +39,7 @@ impl Model for Reads {
 
     ghost view = { λ r. take r.count r.items };
 
-    ghost invariant = { λ r. (r.count ≤ 128) × (length r.items ≡ 128)
+    ghost invariant = { λ r. (r.count ≤ SET) × (length r.items ≡ SET)
         × AreMarked r.marks (take r.count (map (λ x. x.word) r.items)) };
 }
 
@@ -106,6 +110,7 @@ pub struct Slots {
 }
 
 impl Model for Slots {
+    ghost use Rattle.md_words.specs.declared.limits.TheConstants.{SET};
     ghost use Rattle.std.specs.Prelude.{◌≡◌, List, take, map, ◌≤◌, length};
     ghost use Rattle.md_nbtc_law.specs.declared.slots.Slot.{Slot};
     ghost use Rattle.md_nbtc_sets.specs.Marks.{AreMarked};
@@ -114,7 +119,7 @@ impl Model for Slots {
 
     ghost view = { λ r. take r.count r.items };
 
-    ghost invariant = { λ r. (r.count ≤ 128) × (length r.items ≡ 128)
+    ghost invariant = { λ r. (r.count ≤ SET) × (length r.items ≡ SET)
         × AreMarked r.marks (take r.count (map (λ x. x.write.word) r.items)) };
 }
 
@@ -200,11 +205,12 @@ impl Slots {
 /// The lanes that gave the transaction nodes, in order. Contracts see them as a list.
 #[derive(Drop)]
 pub struct Lots {
-    items: [Lot; 64],
+    items: [Lot; LOTS],
     count: u8,
 }
 
 impl Model for Lots {
+    ghost use Rattle.md_words.specs.declared.limits.TheConstants.{LANES};
     ghost use Rattle.std.specs.Prelude.{◌≡◌, List, take, ◌≤◌, length};
     ghost use Rattle.md_nbtc_law.specs.declared.slots.Lot.{Lot};
 
@@ -212,7 +218,7 @@ impl Model for Lots {
 
     ghost view = { λ r. take r.count r.items };
 
-    ghost invariant = { λ r. (r.count ≤ 64) × (length r.items ≡ 64) };
+    ghost invariant = { λ r. (r.count ≤ LANES) × (length r.items ≡ LANES) };
 }
 
 impl Lots {
@@ -220,7 +226,7 @@ impl Lots {
         ensures { result ≡ [] }
     {
         Lots {
-            items: [NO_LOT; 64],
+            items: [NO_LOT; LOTS],
             count: 0,
         }
     }
@@ -261,7 +267,7 @@ impl Lots {
     /// Keeps where the nodes of a lane begin, unless it is known. If it isn't, fewer than 64 lanes
     /// gave nodes. It takes no step and no memory, and searches at most 64 lanes.
     pub fn keep(&mut self, lot: Lot)
-        requires { list_any (λ l. l.lane == lot.lane) self.old ≡ false → length self.old < 64 }
+        requires { list_any (λ l. l.lane == lot.lane) self.old ≡ false → length self.old < LANES }
         ensures { self.new ≡ with_lot self.old lot }
     {
         if !self.has(lot.lane) {
@@ -280,13 +286,14 @@ pub struct Lefts {
 }
 
 impl Model for Lefts {
+    ghost use Rattle.md_words.specs.declared.limits.TheConstants.{SET};
     ghost use Rattle.std.specs.Prelude.{◌≡◌, ℕ, List, take, ◌≤◌, length};
 
     ghost Value = { List ℕ };
 
     ghost view = { λ r. take r.count r.items };
 
-    ghost invariant = { λ r. (r.count ≤ 128) × (length r.items ≡ 128) };
+    ghost invariant = { λ r. (r.count ≤ SET) × (length r.items ≡ SET) };
 }
 
 impl Lefts {

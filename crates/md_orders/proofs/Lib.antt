@@ -4,8 +4,10 @@ pub mod Keeps
 pub mod Lines
 pub mod Rows
 pub mod Numbered
+pub mod Turns
 pub mod Noted
 pub mod Made
+pub mod MadeLines
 pub mod Split
 pub mod LineEnds
 pub mod InSegments

@@ -1,5 +1,5 @@
 -- Made scripts, one command after another.
-use Rattle.std.proofs.Common.{◌≡◌, ◌≤◌, ◌+◌, ◌*◌, ◌/◌, ◌%◌, ◌^◌, ◌∙◌, ◌++◌, ◌∷◌, ℕ, zero, suc, List, [], true, false, length, map, replicate, refl, sym, ap, subst, arith, inl, inr}
+use Rattle.std.proofs.Common.{◌≡◌, ◌≤◌, ◌+◌, ◌*◌, ◌/◌, ◌%◌, ◌^◌, ◌∙◌, ◌++◌, ◌∷◌, ℕ, suc, List, [], true, false, length, map, replicate, refl, sym, ap, subst, arith, inl, inr}
 use Rattle.std.specs.Prelude.{◌==◌, filter}
 use Rattle.std.specs.List.{enumerate_from, range_with_len}
 use Rattle.std.proofs.lemmas.Bool.{cases_Bool, eqb-true, eq-eqb, false≢true}
@@ -12,6 +12,7 @@ use Rattle.md_orders.specs.Generator.{next_state, state_after_draws, draws_from,
 use Rattle.md_orders.proofs.ByCaller.{list_of-with_list-same, list_of-with_list-other, length-with_list}
 use Rattle.md_orders.proofs.Noted.{list_of-replicate}
 use Rattle.md_orders.proofs.Numbered.{numbered-more, numbered-same}
+use Rattle.md_orders.proofs.Turns.{range-more}
 
 -- five draws more
 pub five_more : (number i state : ℕ) → state ≡ state_after_draws number (5 * i) → state_after_draws state 5 ≡ state_after_draws number (5 * (i + 1))
@@ -25,18 +26,13 @@ pub five_draws : (s a b c d e k w g p q : ℕ) → a ≡ next_state s → b ≡ 
 unfolding state_after_draws
 five_draws s a b c d e k w g p q a_is b_is c_is d_is e_is k_is w_is g_is p_is q_is = rw (k_is, w_is, g_is, p_is, q_is, e_is, d_is, c_is, b_is, a_is) (refl, refl)
 
--- one number more
-range-more : (a n j : ℕ) → a + n ≡ j → range_with_len a (n + 1) ≡ range_with_len a n ++ j ∷ []
-range-more a zero j at = let same : a ≡ j = omega arith in ap (λ k. k ∷ []) same
-range-more a (suc n) j at = let more : suc n + 1 ≡ suc (n + 1) = omega arith in rw more (ap (λ xs. a ∷ xs) (range-more (a + 1) n j (omega arith)))
-
 -- a caller's script has as many lines as the caller has commands
-length-script : (number lines callers caller : ℕ) → length (made_script number lines callers caller) ≡ length (filter (is_made_by callers caller) (range_with_len 0 lines))
+pub length-script : (number lines callers caller : ℕ) → length (made_script number lines callers caller) ≡ length (filter (is_made_by callers caller) (range_with_len 0 lines))
 length-script number lines callers caller =
     length-map (enumerate_from 1 (filter (is_made_by callers caller) (range_with_len 0 lines))) _ ∙ length-enumerate_from 1 (filter (is_made_by callers caller) (range_with_len 0 lines))
 
 -- the next command of a caller
-script-more : (number i callers caller line : ℕ) → is_made_by callers caller i ≡ true → line ≡ length (made_script number i callers caller) + 1
+pub script-more : (number i callers caller line : ℕ) → is_made_by callers caller i ≡ true → line ≡ length (made_script number i callers caller) + 1
     → made_script number (i + 1) callers caller ≡ made_script number i callers caller ++ made_command caller line (draws_of number i) ∷ []
 script-more number i callers caller line mine at =
     let f : ℕ × ℕ → Command = λ p. made_command caller p.0 (draws_of number p.1) in
@@ -46,7 +42,7 @@ script-more number i callers caller line mine at =
     ∙ map-append f (enumerate_from 1 (filter (is_made_by callers caller) (range_with_len 0 i))) ((line, i) ∷ [])
 
 -- a command of another caller leaves a script as it was
-script-same : (number i callers caller : ℕ) → is_made_by callers caller i ≡ false → made_script number (i + 1) callers caller ≡ made_script number i callers caller
+pub script-same : (number i callers caller : ℕ) → is_made_by callers caller i ≡ false → made_script number (i + 1) callers caller ≡ made_script number i callers caller
 script-same number i callers caller other =
     let f : ℕ × ℕ → Command = λ p. made_command caller p.0 (draws_of number p.1) in
     ap (λ is. map f (enumerate_from 1 (filter (is_made_by callers caller) is))) (range-more 0 i i (omega arith))

@@ -9,3 +9,4 @@ pub mod Renamed
 pub mod Joined
 pub mod ScriptLine
 pub mod Generator
+pub mod Maker

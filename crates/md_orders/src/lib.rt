@@ -6,6 +6,7 @@ mod fields;
 mod generator;
 mod grammar;
 mod joins;
+mod maker;
 mod read;
 mod read_in_threads;
 mod reading;
@@ -14,7 +15,8 @@ mod segments;
 mod version;
 
 pub use fields::number_within;
-pub use generator::{MAX_MADE_CALLERS, make};
+pub use generator::MAX_MADE_CALLERS;
+pub use maker::{Maker, make};
 pub use read::{OrderFault, read_orders};
 pub use read_in_threads::read_orders_in_threads;
 pub use scripts::{Scripts, commands_are_named};

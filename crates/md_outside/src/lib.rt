@@ -5,6 +5,7 @@ mod listed;
 mod mem_sink;
 mod mem_source;
 mod outside;
+mod passage;
 mod std_sink;
 mod std_source;
 

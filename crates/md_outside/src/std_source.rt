@@ -1,27 +1,40 @@
 //! A source over any reader of std.
 
-ghost use Rattle.std.specs.Prelude.{◌≡◌};
+ghost use Rattle.std.specs.Prelude.{◌≡◌, []};
 
+use crate::passage::Passage;
 use crate::{Failed, Source};
 use std::io::Read;
 
-/// A reader of std, with a count of its faults. It tells the bytes that the reader tells.
+/// A reader of std, with a count of its faults. It tells the bytes that the reader tells. Contracts
+/// see the bytes that its reads gave (`source_bytes`).
 #[derive(Drop)]
 pub struct StdSource<R> {
     inner: R,
     faults: u64,
+    given: Passage,
 }
 
 impl<R: Read> StdSource<R> {
-    ghost use Rattle.md_outside.specs.StdSource.{source_reader, source_faults};
+    ghost use Rattle.md_outside.specs.StdSource.{source_reader, source_faults, source_bytes, KeepsReads};
 
-    /// A source that reads from `inner`, with a count of 0 faults.
+    /// A source that reads from `inner`, with a count of 0 faults. No byte was read yet.
     pub fn new(inner: R) -> StdSource<R>
         ensures reader { source_reader result ≡ inner }
         ensures faults { source_faults result ≡ 0 }
+        ensures bytes { source_bytes result ≡ [] }
     {
-        StdSource { inner, faults: 0 }
+        StdSource {
+            inner,
+            faults: 0,
+            given: Passage::new(),
+        }
     }
+
+    /// A law: whatever reads gave up to now stands behind the bytes that were given before.
+    pub fn keeps_reads(&self)
+        ensures { KeepsReads R.remaining self.now }
+    {}
 }
 
 /// Each call makes one read of the inner reader. It returns `Failed` if this has an error,
@@ -37,7 +50,10 @@ impl<R: Read> Source for StdSource<R> {
 
     fn read(&mut self, buf: &mut [u8]) -> Result<usize, Failed> {
         match self.inner.read(buf) {
-            Ok(count) => Ok(count),
+            Ok(count) => {
+                self.given.add(&buf[..count]);
+                Ok(count)
+            }
             Err(_) => {
                 self.faults = self.faults.saturating_add(1);
                 Err(Failed)

@@ -1,9 +1,11 @@
 //! Opening a concurrent store and playing scripts over it, with the nodes and attempts that the
 //! options give.
 
-ghost use Rattle.std.specs.Prelude.{◌≡◌, ◌≤◌, ◌*◌, ℕ, IfOk, length, map};
+ghost use Rattle.std.specs.Prelude.{◌≡◌, ◌≤◌, ◌*◌, ℕ, IfOk, OnOk, length, map};
 ghost use Rattle.md_book.specs.Book.{Book};
 ghost use Rattle.md_book.specs.Stands.{StandsFor};
+ghost use Rattle.md_many.specs.Played.{IsToldOfEach};
+ghost use Rattle.md_rounds.specs.OrderLines.{line_count_of};
 ghost use Rattle.md_rounds.specs.Replay.{IsPlayed};
 ghost use Rattle.md_program_play.specs.Opened.{IsOpenFor};
 ghost use Rattle.md_program_play.specs.declared.playing.TheConstants.{MAX_LANE_NODES, MAX_STORE_NODES};
@@ -120,8 +122,9 @@ where
     G: Gate + Sync,
     requires callers { (1 ≤ length scripts.now) × (length scripts.now ≤ 64) }
     requires in_range { AreInRange options.now }
-    ensures { IfOk result (λ o. (book : Book) × StandsFor o.contents book
+    ensures played { IfOk result (λ o. (book : Book) × StandsFor o.contents book
         × IsPlayed scripts.now (map front_in o.fronts.items) o.replies.replies book) }
+    ensures gate { OnOk result (IsToldOfEach (line_count_of scripts.now) (G.after_called gate.now)) }
 {
     let nodes = match options.nodes {
         Some(nodes) => nodes,

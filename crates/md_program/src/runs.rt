@@ -7,6 +7,7 @@ ghost use Rattle.md_orders.specs.Grammar.{first_bad};
 ghost use Rattle.md_orders.specs.Records.{order_records, AreFewRecords};
 ghost use Rattle.md_report.specs.Report.{whole_text};
 ghost use Rattle.md_orders.specs.Scripts.{AreScripts};
+ghost use Rattle.md_many.specs.Played.{IsToldOf, committed_of};
 ghost use Rattle.md_program_play.specs.Opened.{IsOpenFor};
 ghost use Rattle.md_store.specs.Store.{front_in};
 ghost use Rattle.md_program_edge.specs.Words.{texts};
@@ -47,6 +48,8 @@ where
     ensures replayed { IfOk result (λ w. IsReplayed I.gives I.left I.faults
         input.old input.new options.now.callers
         (map front_in w.fronts.items) (whole_text w.parts.items)) }
+    ensures gate { IfOk result (λ w. IsToldOf (G.after_called gate.now)
+        (committed_of (map front_in w.fronts.items))) }
     ensures stops { IfErr result (StopsReplay I.gives I.left I.faults
         input.old input.new options.now.callers) }
 {
@@ -90,8 +93,10 @@ where
     G: Gate + Sync,
     requires in_range { AreInRange options.now }
     requires making { options.now.make ≡ Some making }
-    ensures { IfOk result (λ w. IsSummed options.now.callers making
+    ensures summed { IfOk result (λ w. IsSummed options.now.callers making
         (map front_in w.fronts.items) (whole_text w.parts.items)) }
+    ensures gate { IfOk result (λ w. IsToldOf (G.after_called gate.now)
+        (committed_of (map front_in w.fronts.items))) }
 {
     let scripts = make(alloc, making.number, making.lines, options.callers)?;
     let played = play(rt, alloc, &scripts, options, gate)?;
@@ -119,6 +124,8 @@ where
     ensures played { IfOk result (λ w. HasPlayed I.gives I.left I.faults
         input.old input.new options.now.callers options.now.make
         (map front_in w.fronts.items) (whole_text w.parts.items)) }
+    ensures gate { IfOk result (λ w. IsToldOf (G.after_called gate.now)
+        (committed_of (map front_in w.fronts.items))) }
     ensures stops { IfErr result (StopsWith I.gives I.left I.faults
         input.old input.new options.now.callers options.now.make) }
 {
@@ -163,6 +170,8 @@ where
     ensures complete { EndsWell I.gives I.left I.faults input.old input.new
         O.faults output.old output.new options.now result.status }
     ensures usage { result.status ≢ Status.Usage }
+    ensures gate { IsToldOf (G.after_called gate.now)
+        (committed_of (map front_in result.fronts.items)) }
 {
     match play_asked(rt, alloc, options, input, gate) {
         Ok(PlayedText { parts, fronts }) => {
@@ -194,8 +203,8 @@ where
 /// `NoMemory` if the words are accepted and no write fails, and if also, without `--make`, no read
 /// fails and the input is good.
 ///
-/// `gate` is called before each attempt at a line and after its commit. No clause of this call
-/// speaks of it.
+/// `gate` is called before each attempt at a line, and after the attempt that committed it. The
+/// clause `gate` says so of each committed line: `after` needs what only `before` gives.
 pub fn run<R, I, O, G>(
     rt: &R,
     alloc: Global,
@@ -221,6 +230,8 @@ where
     ensures complete { (options : Options) → Write (texts words.now) options
         → EndsWell I.gives I.left I.faults input.old input.new
         O.faults output.old output.new options result.status }
+    ensures gate { IsToldOf (G.after_called gate.now)
+        (committed_of (map front_in result.fronts.items)) }
 {
     match read_options(words) {
         Some(options) => run_asked(rt, alloc, &options, input, output, gate),

@@ -20,6 +20,7 @@ use Rattle.md_machine.specs.Machine.{Machine, content}
 use Rattle.md_machine.specs.Meaning.{Lawful, Meaning}
 use Rattle.md_machine.specs.Resolution.{or_else}
 use Rattle.md_machine.specs.clauses.passes.Alone.{HoldsAll, IsAlone, LastStand}
+use Rattle.md_machine.proofs.chain.Agree.{SameValues}
 use Rattle.md_machine.proofs.chain.Values.{value_even}
 use Rattle.md_machine.proofs.lists.Rising.{here}
 use Rattle.md_rule.proofs.Moves.{is_kept}
@@ -31,7 +32,9 @@ use Rattle.md_nbtc_law.specs.Seeing.{Gave, SeesContent}
 use Rattle.md_nbtc_law.specs.State.{OwnNode, TxnState, attempt_in, own_steps, seen_content, shape_in, writes_in}
 use Rattle.md_nbtc_law.specs.Tidied.{HasTidied, tidied}
 use Rattle.md_nbtc_law.proofs.Values.{IsApart}
+use Rattle.md_nbtc_law.proofs.attempts.Alone.{found_same}
 use Rattle.md_nbtc_law.proofs.exchanging.Refused.{read_there}
+use Rattle.md_nbtc_law.proofs.preparing.Heaps.{later_self}
 use Rattle.md_nbtc_law.proofs.looks.AloneChain.{ChainsFrom, chain_later, chained, last_at, stays_held}
 use Rattle.md_nbtc_law.proofs.ready.Lookups.{all_of, written_replaced}
 use Rattle.md_nbtc_law.proofs.ready.Lost.{began_then, last_part, on_word, one_stands}
@@ -39,11 +42,15 @@ use Rattle.md_nbtc_law.proofs.structures.FoundLater.{found_value}
 use Rattle.md_nbtc_law.proofs.structures.NodesKnown.{new_differ, new_exist, new_free, own_is_new, shape_known}
 use Rattle.md_nbtc_law.proofs.structures.SeenValues.{own_value}
 use Rattle.md_nbtc_law.proofs.structures.Words.{stored_value, unwritten_value}
-use Rattle.md_queue.specs.Working.{SeesAt}
+use Rattle.md_queue.specs.Working.{IsWorking, SeesAt}
 
 module _ (M : Meaning) (t : TxnState) (prepared : IsPrepared t) (all : HoldsAll (shape_in t) t.pass.view) (h : LogicalHeap) (of : IsHeapOf M t h) where
   abbrev m : Machine
   m = of.machine
+
+  -- what it found first in words stands there
+  pub alone_same : SameValues (found_by t h) h
+  alone_same = subst (λ k. SameValues (found_by t k) k) (sym of.is) (found_same M t prepared of.machine of.admitted of.pass of.acts all of.choice)
 
   alone : IsAlone m of.pass t.pass.view
   alone = (is_kept M t.field.origin m of.admitted).alone of.pass t.pass.view of.acts.at (subst (λ (s : Shape). HoldsAll s t.pass.view) (sym of.admitted.shape) all)
@@ -141,3 +148,9 @@ module _ (M : Meaning) (lawful : Lawful M) (t : TxnState) (cs : List Certificate
       (λ met. unwritten_value M t cs going.course ts has (found_by v h) shape_is word (sym sees.gave.own ∙ other) (met_apart word seen.value met) ∙ found other)
       (sees.there other))
       (cases_Bool seen.own)
+
+-- so if no other pass is live, it stands in each heap that the field may have now
+pub seen_there : (M : Meaning) (lawful : Lawful M) (t : TxnState) (cs : List Certificate) (ts : List TidyChange) (queue : ℕ) → IsWorking M t queue cs ts → HoldsAll (shape_in t) t.pass.view
+    → (word : ℕ) (seen : Seen) → SeesAt M t word seen → seen.count < 2 ^ 32 → (h : LogicalHeap) → IsHeapOf M t h → (tidied (found_by t h) cs ts).words.value word ≡ seen.value
+seen_there M lawful t cs ts queue w all word seen sees fits h of =
+    seen_stands M lawful t cs w.going ts w.tidied t (later_self t) w.going.prepared h of word seen sees (alone_sees M t w.going.prepared all h of word seen sees.gave fits)

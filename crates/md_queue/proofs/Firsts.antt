@@ -1,16 +1,15 @@
--- A look at the first value of a queue: its steps, and its certificates.
+-- A look at the first value of a queue: its steps, what it knows for good, and its certificates.
 use Rattle.std.proofs.Common.{◌≡◌, ◌≢◌, ◌<◌, ◌^◌, ℕ, List, [], ◌∷◌, Some, None, refl, sym, ap, subst, inl, inr}
 use Rattle.std.proofs.lemmas.List.Elements.{All-cons, All-nil}
 use Rattle.std.specs.List.{All}
 use Rattle.md_words.specs.declared.shape.Shape.{Shape}
-use Rattle.md_words.specs.Layout.{IsNode, address}
+use Rattle.md_words.specs.Layout.{address}
 use Rattle.md_words.specs.Link.{linked_node}
 use Rattle.md_words.specs.Place.{node_next, queue_head}
 use Rattle.md_history.specs.declared.acts.Op.{Op}
 use Rattle.md_history.specs.declared.acts.Op.TheVariants.{Dequeue, Front}
 use Rattle.md_history.specs.declared.acts.Reply.TheVariants.{Value}
 use Rattle.md_machine.specs.declared.certificate.Certificate.{Certificate}
-use Rattle.md_machine.specs.declared.certificate.Fact.{Fact}
 use Rattle.md_machine.specs.declared.certificate.TidyChange.{TidyChange}
 use Rattle.md_machine.specs.declared.certificate.WordValue.{WordValue}
 use Rattle.md_machine.specs.declared.node.Structure.TheVariants.{Queue}
@@ -23,19 +22,23 @@ use Rattle.md_nbtc_law.specs.Going.{IsGoing}
 use Rattle.md_nbtc_law.specs.Known.{IsLater, Known}
 use Rattle.md_nbtc_law.specs.Seeing.{KeepsGiven, Looks}
 use Rattle.md_nbtc_law.specs.State.{TxnState, shape_in}
+use Rattle.md_nbtc_law.specs.Tidied.{tidied}
+use Rattle.md_nbtc_law.proofs.preparing.Later.{known_later, later_over}
 use Rattle.md_nbtc_law.proofs.structures.Growing.{tidied_none}
 use Rattle.md_nbtc_law.proofs.structures.NodesKnown.{data_known, shape_later}
 use Rattle.md_nbtc_law.proofs.structures.Noting.{HasNoted}
 use Rattle.md_nbtc_law.proofs.structures.Reading.{reading}
+use Rattle.md_nbtc_law.proofs.structures.Tidying.{bare_holds}
 use Rattle.md_queue_law.specs.Laws.Words.{head_not_next}
-use Rattle.md_queue_law.specs.QueueCertificates.{FindsNone, has_value, head_is, next_is}
+use Rattle.md_queue_law.specs.QueueCertificates.{FindsNone, has_next, has_value, head_is, next_is}
 use Rattle.md_queue_law.specs.QueueMeaning.{HasQueuesOf}
 use Rattle.md_queue_law.specs.QueueShape.{link}
 use Rattle.md_queue.specs.Operations.{GoesBy, IsBegun, RecordsAmong}
 use Rattle.md_queue.specs.Words.{head_at, next_at}
-use Rattle.md_queue.specs.Working.{IsKnownAs, IsWorking, KnowsOf, NamesNode, NotedFirst, SeesAt, SeesFirst, SeesNext, first_words}
+use Rattle.md_queue.specs.Working.{IsKnownAs, IsWorking, NamesNode, NotedNone, SeesAt, SeesFirst, SeesNext, none_words}
 use Rattle.md_queue.proofs.Among.{AnswersBy, among_from}
 use Rattle.md_queue.proofs.Looking.{head_looked, head_named, next_looked, next_named}
+use Rattle.md_queue.proofs.Moving.{next_fact_holds}
 use Rattle.md_queue.proofs.Passing.{names_on, next_on, sees_on, working_on}
 use Rattle.md_queue.proofs.Recording.{may_answer_reading, noted_recorded, recorded_on}
 
@@ -83,6 +86,24 @@ module _ (M : Meaning) (lawful : Lawful M) (queues : HasQueuesOf M) (t u : TxnSt
         next_sees = next_looked M lawful queues t queue cs s.changes s.working u on next (linked_node head.value) named.placed looks same;
       }
 
+-- what is known for good of a node of the queue whose next word isn't 0: it names the next node, which has its value
+pub next_holds : (M : Meaning) (lawful : Lawful M) (queues : HasQueuesOf M) (t u : TxnState) (later : IsLater t u) (queue : ℕ) (cs : List Certificate) (ts : List TidyChange)
+    → IsWorking M t queue cs ts → IsWorking M u queue cs ts → (node : ℕ) (next : Seen) → SeesNext M t cs queue node next → next.value ≢ 0 → (value : ℕ)
+    → Known M u (λ v h. h.words.value_of_node (linked_node next.value) ≡ value)
+    → Known M u (λ v h. All (Holds (tidied h cs ts)) (has_next queue node (link (linked_node next.value)) ∷ has_value queue (linked_node next.value) value ∷ []))
+next_holds M lawful queues t u later queue cs ts at_t at_u node next sees some value is v over prepared h of =
+    let first = linked_node next.value in
+    let now = names_on M t u later cs queue next.value (next_named M lawful queues t queue cs ts at_t node next sees some) in
+    let goes = has_next queue node (link first) in
+    let has = has_value queue first value in
+    All-cons (Holds (tidied h cs ts)) goes (has ∷ [])
+    (subst (λ x. Holds (tidied h cs ts) (has_next queue node x)) now.is
+    (next_fact_holds M lawful queues t queue cs ts at_t node next sees some v (later_over t u v later over) prepared h of))
+    (All-cons (Holds (tidied h cs ts)) has []
+    (bare_holds (after_wholes h cs) ts at_u.tidied.bare has refl
+    (data_known M lawful u cs at_u.going first (Queue queue) None (Some value) now.exists now.placed (λ x after prep k of_k. tt) is v over prepared h of))
+    (All-nil (Holds (tidied h cs ts))))
+
 module _ (M : Meaning) (lawful : Lawful M) (queues : HasQueuesOf M) (t : TxnState) (queue : ℕ) (cs : List Certificate) (head next : Seen) where
   -- after a note of the head, and one of the next word
   module _ (s : SeesFirst M t queue cs head next) (u : TxnState) (on : GoesOn M t u) (fits : head.count < 2 ^ 32) where
@@ -107,8 +128,8 @@ module _ (M : Meaning) (lawful : Lawful M) (queues : HasQueuesOf M) (t : TxnStat
               (λ e. head_not_next (shape_in t) queue (linked_node head.value) s.working.within s.next_sees.exists (sym e)) s.next_sees.at.gave);
         }
 
-    pub noted_first : NotedHead → (v : TxnState) → GoesOn M u v → next.count < 2 ^ 32 → HasNoted u v (next_at u (linked_node head.value)) next → NotedFirst M v queue cs head next
-    noted_first n v over small noted =
+    pub noted_none : NotedHead → next.value ≡ 0 → (v : TxnState) → GoesOn M u v → next.count < 2 ^ 32 → HasNoted u v (next_at u (linked_node head.value)) next → NotedNone M v queue cs head
+    noted_none n zero v over small noted =
         let shape = shape_later u v over.later in
         let working = working_on M u v over.later queue cs s.changes over noted.hand n.working in
         record {
@@ -117,71 +138,51 @@ module _ (M : Meaning) (lawful : Lawful M) (queues : HasQueuesOf M) (t : TxnStat
           head_named = names_on M u v over.later cs queue head.value n.head_named;
           head_noted = recorded_on M u v over.later working.going.prepared cs s.changes (head_is (shape_in v) queue head.value)
               (subst (λ x. IsKnownAs M u cs s.changes (head_is x queue head.value)) (sym shape) n.head_noted);
-          next_noted = subst (λ x. IsKnownAs M v cs s.changes (next_is x (linked_node head.value) next.value)) (sym shape)
-              (noted_recorded M lawful u queue cs s.changes n.working v over.later (next_at u (linked_node head.value)) next n.next_sees.at small noted);
-          next_named = λ some. names_on M u v over.later cs queue next.value
-              (next_named M lawful queues u queue cs s.changes n.working (linked_node head.value) next n.next_sees some);
+          next_noted = subst (λ x. IsKnownAs M v cs s.changes (next_is x (linked_node head.value) 0)) (sym shape)
+              (subst (λ x. IsKnownAs M v cs s.changes (next_is (shape_in u) (linked_node head.value) x)) zero
+              (noted_recorded M lawful u queue cs s.changes n.working v over.later (next_at u (linked_node head.value)) next n.next_sees.at small noted));
         }
 
-  module _ (n : NotedFirst M t queue cs head next) where
-    abbrev words : (value : ℕ) → List WordValue
-    words value = head_is (shape_in t) queue (link (linked_node head.value)) ∷ next_is (shape_in t) (linked_node head.value) value ∷ []
+    -- a value was found, and is read: the head alone is recorded
+    pub front_some : NotedHead → next.value ≢ 0 → (value : ℕ) → Known M t (λ v h. h.words.value_of_node (linked_node next.value) ≡ value)
+        → AnswersBy M u cs (Front queue) (Value (Some value)) (head_at u queue ∷ [])
+    front_some n some value is =
+        let ts = s.changes in
+        let dummy = linked_node head.value in
+        let first = linked_node next.value in
+        let facts = has_next queue dummy (link first) ∷ has_value queue first value ∷ [] in
+        let read = head_is (shape_in u) queue (link dummy) in
+        may_answer_reading M queues u queue cs ts n.working (Front queue) (Value (Some value)) (read ∷ []) facts
+        (n.working.within, inl (record { dummy = dummy; first = first; value = value; reply = refl; recorded = refl; changes = refl; nodes = refl; facts = refl }))
+        (All-cons (IsKnownAs M u cs ts) read [] (subst (λ v. IsKnownAs M u cs ts (head_is (shape_in u) queue v)) n.head_named.is n.head_noted) (All-nil (IsKnownAs M u cs ts)))
+        (next_holds M lawful queues t u on.later queue cs ts s.working n.working dummy next s.next_sees some value
+        (known_later M (λ v h. h.words.value_of_node first ≡ value) t u on.later is))
 
-    words_recorded : (value : ℕ) → next.value ≡ value → All (IsKnownAs M t cs n.changes) (words value)
-    words_recorded value is = All-cons (IsKnownAs M t cs n.changes) (head_is (shape_in t) queue (link (linked_node head.value))) (next_is (shape_in t) (linked_node head.value) value ∷ [])
-        (subst (λ v. IsKnownAs M t cs n.changes (head_is (shape_in t) queue v)) n.head_named.is n.head_noted)
-        (All-cons (IsKnownAs M t cs n.changes) (next_is (shape_in t) (linked_node head.value) value) []
-        (subst (λ v. IsKnownAs M t cs n.changes (next_is (shape_in t) (linked_node head.value) v)) is n.next_noted)
-        (All-nil (IsKnownAs M t cs n.changes)))
+module _ (M : Meaning) (queues : HasQueuesOf M) (t : TxnState) (queue : ℕ) (cs : List Certificate) (head : Seen) (n : NotedNone M t queue cs head) where
+  abbrev words : List WordValue
+  words = head_is (shape_in t) queue (link (linked_node head.value)) ∷ next_is (shape_in t) (linked_node head.value) 0 ∷ []
 
-    no_facts : Known M t (λ u h. All (Holds (after_wholes h cs)) [])
-    no_facts u later prepared h of = All-nil (Holds (after_wholes h cs))
+  words_recorded : All (IsKnownAs M t cs n.changes) words
+  words_recorded = All-cons (IsKnownAs M t cs n.changes) (head_is (shape_in t) queue (link (linked_node head.value))) (next_is (shape_in t) (linked_node head.value) 0 ∷ [])
+      (subst (λ v. IsKnownAs M t cs n.changes (head_is (shape_in t) queue v)) n.head_named.is n.head_noted)
+      (All-cons (IsKnownAs M t cs n.changes) (next_is (shape_in t) (linked_node head.value) 0) [] n.next_noted (All-nil (IsKnownAs M t cs n.changes)))
 
-    finds_none : (op : Op) → FindsNone (shape_in t) queue (reading op (Value None) n.changes (words 0) [])
-    finds_none op = record { dummy = linked_node head.value; reply = refl; recorded = refl; changes = refl; nodes = refl; facts = refl }
+  no_facts : Known M t (λ u h. All (Holds (tidied h cs n.changes)) [])
+  no_facts u later prepared h of = All-nil (Holds (tidied h cs n.changes))
 
-    -- the queue was found empty
-    pub front_none : next.value ≡ 0 → AnswersBy M t cs (Front queue) (Value None) (first_words t queue head)
-    front_none zero = may_answer_reading M queues t queue cs n.changes n.working (Front queue) (Value None) (words 0) []
-        (n.working.within, inr (finds_none (Front queue))) (words_recorded 0 zero) no_facts (All-nil (λ (f : Fact). f.next ≡ None))
+  finds_none : (op : Op) → FindsNone (shape_in t) queue (reading op (Value None) n.changes words [])
+  finds_none op = record { dummy = linked_node head.value; reply = refl; recorded = refl; changes = refl; nodes = refl; facts = refl }
 
-    pub dequeue_none : next.value ≡ 0 → AnswersBy M t cs (Dequeue queue) (Value None) (first_words t queue head)
-    dequeue_none zero = may_answer_reading M queues t queue cs n.changes n.working (Dequeue queue) (Value None) (words 0) []
-        (n.working.within, inr (finds_none (Dequeue queue))) (words_recorded 0 zero) no_facts (All-nil (λ (f : Fact). f.next ≡ None))
+  -- the queue was found empty
+  pub front_none : AnswersBy M t cs (Front queue) (Value None) (none_words t queue head)
+  front_none = may_answer_reading M queues t queue cs n.changes n.working (Front queue) (Value None) words []
+      (n.working.within, inr (finds_none (Front queue))) words_recorded no_facts
+
+  pub dequeue_none : AnswersBy M t cs (Dequeue queue) (Value None) (none_words t queue head)
+  dequeue_none = may_answer_reading M queues t queue cs n.changes n.working (Dequeue queue) (Value None) words []
+      (n.working.within, inr (finds_none (Dequeue queue))) words_recorded no_facts
 
 -- after a look at both words, and then a note of both, these alone are recorded more
-pub first_among : (M : Meaning) (s t u : TxnState) (queue : ℕ) (head : Seen) → GoesBy M s t 0 0 0 → IsLater t u → RecordsAmong t u (first_words t queue head) → RecordsAmong s u (first_words u queue head)
-first_among M s t u queue head goes later among = subst (λ (x : Shape). RecordsAmong s u (address x (queue_head queue) ∷ address x (node_next (linked_node head.value)) ∷ [])) (sym (shape_later t u later))
-    (among_from M s t u 0 0 (first_words t queue head) goes among)
-
--- what is known of the value of a node of the queue
-pub value_known : (M : Meaning) (lawful : Lawful M) (t : TxnState) (queue : ℕ) (cs : List Certificate) (ts : List TidyChange) → IsWorking M t queue cs ts → (node value : ℕ)
-    → IsNode (shape_in t) node → KnowsOf M t cs queue node → Known M t (λ u h. h.words.value_of_node node ≡ value)
-    → Known M t (λ u h. All (Holds (after_wholes h cs)) (has_value queue node value ∷ []))
-value_known M lawful t queue cs ts w node value exists placed is u later prepared h of = All-cons (Holds (after_wholes h cs)) (has_value queue node value) []
-    (data_known M lawful t cs w.going node (Queue queue) None (Some value) exists placed (λ v over prep k of_k. tt) is u later prepared h of) (All-nil (Holds (after_wholes h cs)))
-
--- a value was found
-pub front_some : (M : Meaning) (lawful : Lawful M) (queues : HasQueuesOf M) (t u : TxnState) (queue : ℕ) (cs : List Certificate) (head next : Seen) → NotedFirst M t queue cs head next → next.value ≢ 0
-    → GoesOn M t u → u ≡ record t { pass = u.pass } → (value : ℕ) → Known M u (λ v h. h.words.value_of_node (linked_node next.value) ≡ value)
-    → AnswersBy M u cs (Front queue) (Value (Some value)) (first_words u queue head)
-front_some M lawful queues t u queue cs head next n some on same value is =
-    let first = linked_node next.value in
-    let shape = shape_later t u on.later in
-    let w = working_on M t u on.later queue cs n.changes on (ap (λ x. x.hand) same) n.working in
-    let named = names_on M t u on.later cs queue next.value (n.next_named some) in
-    let after : NotedFirst M u queue cs head next = record {
-      changes = n.changes;
-      working = w;
-      head_named = names_on M t u on.later cs queue head.value n.head_named;
-      head_noted = recorded_on M t u on.later w.going.prepared cs n.changes (head_is (shape_in u) queue head.value)
-          (subst (λ x. IsKnownAs M t cs n.changes (head_is x queue head.value)) (sym shape) n.head_noted);
-      next_noted = recorded_on M t u on.later w.going.prepared cs n.changes (next_is (shape_in u) (linked_node head.value) next.value)
-          (subst (λ x. IsKnownAs M t cs n.changes (next_is x (linked_node head.value) next.value)) (sym shape) n.next_noted);
-      next_named = λ _. named;
-    } in
-    may_answer_reading M queues u queue cs n.changes w (Front queue) (Value (Some value)) (words M lawful queues u queue cs head next after (link first)) (has_value queue first value ∷ [])
-    (w.within, inl (record { dummy = linked_node head.value; first = first; value = value; reply = refl; recorded = refl; changes = refl; nodes = refl; facts = refl }))
-    (words_recorded M lawful queues u queue cs head next after (link first) named.is)
-    (value_known M lawful u queue cs n.changes w first value named.exists named.placed is)
-    (All-cons (λ (f : Fact). f.next ≡ None) (has_value queue first value) [] refl (All-nil (λ (f : Fact). f.next ≡ None)))
+pub none_among : (M : Meaning) (s t u : TxnState) (queue : ℕ) (head : Seen) → GoesBy M s t 0 0 0 → IsLater t u → RecordsAmong t u (none_words t queue head) → RecordsAmong s u (none_words u queue head)
+none_among M s t u queue head goes later among = subst (λ (x : Shape). RecordsAmong s u (address x (queue_head queue) ∷ address x (node_next (linked_node head.value)) ∷ [])) (sym (shape_later t u later))
+    (among_from M s t u 0 0 (none_words t queue head) goes among)

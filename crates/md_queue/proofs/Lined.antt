@@ -8,24 +8,25 @@ use Rattle.md_history.specs.State.{line_of}
 use Rattle.md_machine.specs.declared.certificate.Certificate.{Certificate}
 use Rattle.md_machine.specs.Meaning.{Meaning}
 use Rattle.md_nbtc_law.specs.Going.{IsGoing}
-use Rattle.md_nbtc_law.specs.State.{TxnState, shape_in}
+use Rattle.md_nbtc_law.specs.State.{TxnState}
 use Rattle.md_queue_law.specs.QueueCertificates.{Seen}
-use Rattle.md_queue.specs.Along.{HasLooked, words_along}
+use Rattle.md_queue.specs.Along.{HasLooked}
 use Rattle.md_queue.specs.Operations.{GoesBy, RecordsAmong}
+use Rattle.md_queue.specs.Words.{head_at}
 
 -- the values of the nodes that were passed
 abbrev pub values_of : List Seen → List ℕ
 values_of seen = map (λ s. s.value) seen
 
--- since it stood so, the look came to a node over as many as are counted, and the line has their values
+-- since it stood so, the look recorded the head, and came to a node over as many as are counted; the line has their values
 pub record HasLine (M : Meaning) (s t : TxnState) (queue node count : ℕ) (line : Line) : Type 0 where
-  pub goes : GoesBy M s t (count + 1) 0 0
+  pub goes : GoesBy M s t 1 0 0
   pub dummy : ℕ
   pub seen : List Seen
   pub counted : length seen ≡ count
   pub is : line ≡ line_of (values_of seen)
   pub looked : (cs : List Certificate) → IsGoing M s cs → HasLooked M t queue cs dummy node seen
-  pub among : RecordsAmong s t (words_along (shape_in t) queue dummy seen)
+  pub among : RecordsAmong s t (head_at t queue ∷ [])
 
 zeros_more : (m i : ℕ) → i < m → replicate {A = ℕ} (m - i) 0 ≡ 0 ∷ replicate {A = ℕ} (m - (i + 1)) 0
 zeros_more m i below = let e : m - i ≡ suc (m - (i + 1)) = omega arith in rw e refl

@@ -1,16 +1,15 @@
 -- A word that was recorded has its value for good, as the transaction sees it; and operations that only look are answered
 -- by the words that they recorded.
-use Rattle.std.proofs.Common.{◌≡◌, ◌<◌, ◌^◌, ℕ, false, List, map, Some, None, refl, sym, ap, ◌∙◌, ⊎_elim, is_some}
+use Rattle.std.proofs.Common.{◌≡◌, ◌<◌, ◌^◌, ℕ, false, List, map, Some, refl, sym, ap, ◌∙◌, ⊎_elim, is_some}
 use Rattle.std.proofs.lemmas.Bool.{cases_Bool}
 use Rattle.std.specs.List.{All}
-use Rattle.std.specs.Prelude.{get_or}
 use Rattle.md_history.specs.declared.acts.Op.{Op}
 use Rattle.md_history.specs.declared.acts.Reply.{Reply}
 use Rattle.md_machine.specs.declared.certificate.Certificate.{Certificate}
 use Rattle.md_machine.specs.declared.certificate.Fact.{Fact}
 use Rattle.md_machine.specs.declared.certificate.TidyChange.{TidyChange}
 use Rattle.md_machine.specs.declared.certificate.WordValue.{WordValue}
-use Rattle.md_machine.specs.Certified.{after_wholes, content_replaced, first_content, is_written}
+use Rattle.md_machine.specs.Certified.{content_replaced, first_content, is_written}
 use Rattle.md_machine.specs.LogicalHeap.{Holds}
 use Rattle.md_machine.specs.Meaning.{Lawful, Meaning}
 use Rattle.md_machine.specs.Resolution.{or_else}
@@ -25,7 +24,6 @@ use Rattle.md_nbtc_law.proofs.structures.Noting.{HasNoted}
 use Rattle.md_nbtc_law.proofs.structures.Reading.{may_end_reading, reading}
 use Rattle.md_nbtc_law.proofs.structures.SeenValues.{seen_value}
 use Rattle.md_nbtc_law.proofs.structures.StoodThen.{some_of, written_is_found}
-use Rattle.md_nbtc_law.proofs.structures.Tidying.{bare_holds}
 use Rattle.md_queue_law.specs.QueueCertificates.{CertifiesQueue}
 use Rattle.md_queue_law.specs.QueueMeaning.{HasQueuesOf}
 use Rattle.md_queue.specs.Working.{IsKnownAs, IsWorking, SeesAt}
@@ -62,16 +60,16 @@ recorded_on M t u later prepared cs ts r is =
     }
 
 module _ (M : Meaning) (queues : HasQueuesOf M) (t : TxnState) (queue : ℕ) (cs : List Certificate) (ts : List TidyChange) (w : IsWorking M t queue cs ts) where
-  -- an operation that looked at recorded words may be answered by them, and by what is known of nodes
+  -- an operation that looked at recorded words may be answered by them, and by what is known for good
   pub may_answer_reading : (op : Op) (reply : Reply) (words : List WordValue) (facts : List Fact) → CertifiesQueue (shape_in t) (reading op reply ts words facts)
-      → All (IsKnownAs M t cs ts) words → Known M t (λ u h. All (Holds (after_wholes h cs)) facts) → All (λ (f : Fact). f.next ≡ None) facts → AnswersBy M t cs op reply (map (λ (r : WordValue). r.word) words)
-  may_answer_reading op reply words facts certifies recorded known plain = record {
+      → All (IsKnownAs M t cs ts) words → Known M t (λ u h. All (Holds (tidied h cs ts)) facts) → AnswersBy M t cs op reply (map (λ (r : WordValue). r.word) words)
+  may_answer_reading op reply words facts certifies recorded known = record {
     certificate = reading op reply ts words facts;
     of = (refl, refl);
     may = may_end_reading M t cs ts w.tidied op reply words facts (queues.certifies (shape_in t) (reading op reply ts words facts) certifies)
         (λ i d below. (recorded i d below).found)
         (λ u later prepared h of i d below. (recorded i d below).value u later prepared h of)
-        (λ u later prepared h of i d below. bare_holds (after_wholes h cs) ts w.tidied.bare (get_or facts i d) (plain i d below) (known u later prepared h of i d below));
+        known;
     row = certifies;
     are = refl;
     charged = w.charged;

@@ -1,14 +1,12 @@
 -- Certificates that would stand next in a heap that the field may have now.
-use Rattle.std.proofs.Common.{◌≡◌, ◌<◌, ◌+◌, ◌++◌, ◌⊎◌, ℕ, List, [], ◌∷◌, map, length, Option, Some, None, refl, sym, ap, ◌∙◌, subst, inl, inr, ⊎_elim, arith, append-nil}
-use Rattle.std.proofs.lemmas.List.{length-append, map-append}
-use Rattle.std.proofs.lemmas.List.Elements.{All-append, All-cons, All-nil}
+use Rattle.std.proofs.Common.{◌≡◌, ◌<◌, ◌+◌, ℕ, List, [], ◌∷◌, map, length, not, Some, None, refl, sym, ap, ◌∙◌, subst, inl, inr, ⊎_elim, arith, ne_eqb}
+use Rattle.std.proofs.lemmas.List.Elements.{All-cons, All-nil}
 use Rattle.std.specs.List.{All}
 use Rattle.md_words.specs.declared.shape.Shape.{Shape}
 use Rattle.md_words.specs.Layout.{address}
-use Rattle.md_words.specs.Link.{linked_node}
 use Rattle.md_words.specs.Place.{node_next, queue_head}
 use Rattle.md_history.specs.declared.acts.Op.{Op}
-use Rattle.md_history.specs.declared.acts.Op.TheVariants.{Front, Line}
+use Rattle.md_history.specs.declared.acts.Op.TheVariants.{Dequeue, Front, Line}
 use Rattle.md_history.specs.declared.acts.Reply.{Reply}
 use Rattle.md_history.specs.declared.acts.Reply.TheVariants.{Line as TheLine, Value}
 use Rattle.md_history.specs.State.{line_of}
@@ -18,30 +16,26 @@ use Rattle.md_machine.specs.declared.certificate.Fact.{Fact}
 use Rattle.md_machine.specs.declared.certificate.NewNode.{NewNode}
 use Rattle.md_machine.specs.declared.certificate.TidyChange.{TidyChange}
 use Rattle.md_machine.specs.declared.certificate.WordValue.{WordValue}
-use Rattle.md_machine.specs.declared.node.Structure.{Structure}
+use Rattle.md_machine.specs.declared.node.Structure.TheVariants.{Queue}
 use Rattle.md_machine.specs.Certified.{after_wholes, all_changes}
-use Rattle.md_machine.specs.LogicalHeap.{Holds, LogicalHeap}
+use Rattle.md_machine.specs.LogicalHeap.{Holds, LogicalHeap, next_of}
 use Rattle.md_machine.specs.Meaning.{Lawful, Meaning}
-use Rattle.md_machine.proofs.chain.Agree.{tidies_shape, wholes_shape}
+use Rattle.md_machine.proofs.chain.Agree.{SameValues, tidies_shape, wholes_shape}
 use Rattle.md_nbtc_law.specs.Known.{IsHeapOf, IsLater, found_by}
 use Rattle.md_nbtc_law.specs.Prepared.{IsPrepared}
 use Rattle.md_nbtc_law.specs.State.{TxnState, shape_in}
 use Rattle.md_nbtc_law.specs.Tidied.{tidied}
 use Rattle.md_nbtc_law.proofs.preparing.Heaps.{later_self}
 use Rattle.md_nbtc_law.proofs.structures.NodesKnown.{shape_known, shape_later}
-use Rattle.md_nbtc_law.proofs.structures.Tidying.{bare_placed}
-use Rattle.md_queue_law.specs.Laws.Words.{linked_node-link}
-use Rattle.md_queue_law.specs.QueueCertificates.{CertifiesQueue, Seen, has_value, head_is, last_seen, next_is, next_words}
+use Rattle.md_queue_law.specs.Laws.Words.{link_not_zero}
+use Rattle.md_queue_law.specs.QueueCertificates.{CertifiesQueue, FindsNone, Seen, facts_along, has_next, has_value, head_is, last_seen, next_is}
 use Rattle.md_queue_law.specs.QueueMeaning.{HasQueuesOf}
 use Rattle.md_queue_law.specs.QueueShape.{IsOf, link}
 use Rattle.md_queue_law.specs.Rising.{QueueRises}
-use Rattle.md_queue_law.proofs.Facts.{look_goes_on}
-use Rattle.md_queue.specs.Along.{words_along}
 use Rattle.md_queue.specs.Operations.{words_recorded}
-use Rattle.md_queue.specs.Refusals.{WouldStand}
+use Rattle.md_queue.specs.Refusals.{AsksFirst, AsksFor, WouldStand}
 use Rattle.md_queue.specs.Words.{head_at, next_at}
 use Rattle.md_queue.specs.Working.{IsWorking}
-use Rattle.md_queue.proofs.Along.{words_more}
 use Rattle.md_queue.proofs.Charging.{charged_on}
 use Rattle.md_queue.proofs.Ranks.{queue_rises}
 
@@ -81,158 +75,150 @@ module _ (M : Meaning) (lawful : Lawful M) (queues : HasQueuesOf M) (t : TxnStat
   rises : QueueRises own now queue
   rises = queue_rises M lawful queues t queue w.within cs w.going ts w.tidied t (later_self t) w.going.prepared h of
 
-  shape_own : own.words.shape ≡ shape_in t
-  shape_own = tidies_shape (after_wholes (found_by t h) cs) ts ∙ wholes_shape (found_by t h) cs ∙ shape_known M lawful t t (later_self t) w.going.prepared h of
+  shape_now : now.words.shape ≡ shape_in t
+  shape_now = tidies_shape (after_wholes h cs) ts ∙ wholes_shape h cs ∙ shape_known M lawful t t (later_self t) w.going.prepared h of
 
   abbrev HasValue : WordValue → Type 0
   HasValue r = own.words.value r.word ≡ r.value
 
-  -- a look that changes nothing stands
+  -- a look that changes nothing stands, and records these words
+  pub record LookStands (Asks : Op → Type 0) (words : List ℕ) : Type 0 where
+    pub certificate : Certificate
+    pub asks : Asks certificate.op
+    pub stands : WouldStand M t cs h certificate
+    pub records : words_recorded certificate ≡ words
+
   looks : (op : Op) (reply : Reply) (words : List WordValue) (facts : List Fact) → CertifiesQueue (shape_in t) (behind ts op reply words [] [] facts)
       → All HasValue words → All (Holds now) facts → WouldStand M t cs h (behind ts op reply words [] [] facts)
   looks op reply words facts row recorded hold = would_stand M queues t queue cs ts w t (later_self t) w.going.prepared h of op reply words [] [] facts row recorded
       (All-nil (λ (c : Change). own.words.value c.word ≡ c.old)) hold (All-nil (λ (n : NewNode). now.placed n.node ≡ None))
 
-  -- the head names a node, the dummy
-  pub head_names_one : (dummy : ℕ) × (own.words.value (head_at t queue) ≡ link dummy)
-  head_names_one =
-      let named = rises.seen.head in
-      (named.0, ap (λ (s : Shape). own.words.value (address s (queue_head queue))) (sym shape_own) ∙ named.2)
+  abbrev one_word : (r : WordValue) → HasValue r → All HasValue (r ∷ [])
+  one_word r is = All-cons HasValue r [] is (All-nil HasValue)
 
-  pub dummy_placed : (dummy : ℕ) → own.words.value (head_at t queue) ≡ link dummy → IsOf own queue dummy
-  dummy_placed dummy is =
-      let named = rises.seen.head in
-      let same = sym named.2 ∙ ap (λ (s : Shape). own.words.value (address s (queue_head queue))) shape_own ∙ is in
-      subst (IsOf own queue) (sym (linked_node-link named.0) ∙ ap linked_node same ∙ linked_node-link dummy) named.1
+  -- where the head's node has the next word 0, it shows that there is no first value
+  module _ (dummy : ℕ) (head : own.words.value (head_at t queue) ≡ link dummy) (end : own.words.value (next_at t dummy) ≡ 0) where
+    shows : List WordValue
+    shows = head_is (shape_in t) queue (link dummy) ∷ next_is (shape_in t) dummy 0 ∷ []
 
-  -- a node's next word is 0, or names a node, of which this is known
-  next_one : (node : ℕ) → IsOf own queue node → (own.words.value (next_at t node) ≡ 0) ⊎ ((first : ℕ) × (own.words.value (next_at t node) ≡ link first) × (now.placed first ≡ own.placed first) × IsOf own queue first)
-  next_one node is =
-      let at = ap (λ (s : Shape). own.words.value (address s (node_next node))) (sym shape_own) in
-      ⊎_elim (λ zero. inl (at ∙ zero)) (λ named. inr (named.0, at ∙ named.2, sym (rises.nodes.placed named.0), named.1)) (rises.seen.next node is)
+    finds : (op : Op) → FindsNone (shape_in t) queue (behind ts op (Value None) (head_is (shape_in t) queue (link dummy) ∷ next_is (shape_in t) dummy 0 ∷ []) [] [] [])
+    finds op = record { dummy = dummy; reply = refl; recorded = refl; changes = refl; nodes = refl; facts = refl }
 
-  value_holds : (first : ℕ) → now.placed first ≡ own.placed first → IsOf own queue first → Holds now (has_value queue first (now.words.value_of_node first))
-  value_holds first same is = record { placed = same ∙ is; key = tt; value = refl; next = tt }
+    pub none_stands : (op : Op) → AsksFirst queue op → LookStands (AsksFor op) (head_at t queue ∷ next_at t dummy ∷ [])
+    none_stands op asks =
+        let read = head_is (shape_in t) queue (link dummy) in
+        let last = next_is (shape_in t) dummy 0 in
+        record {
+          certificate = behind ts op (Value None) (read ∷ last ∷ []) [] [] [];
+          asks = refl;
+          stands = looks op (Value None) (read ∷ last ∷ []) []
+              (⊎_elim
+              (λ front. subst (λ o. CertifiesQueue (shape_in t) (behind ts o (Value None) (read ∷ last ∷ []) [] [] [])) (sym front) (w.within, inr (finds (Front queue))))
+              (λ taken. subst (λ o. CertifiesQueue (shape_in t) (behind ts o (Value None) (read ∷ last ∷ []) [] [] [])) (sym taken) (w.within, inr (finds (Dequeue queue))))
+              asks)
+              (All-cons HasValue read (last ∷ []) head (one_word last end))
+              (All-nil (Holds now));
+          records = refl;
+        }
 
-  -- so a look at the first value would stand
-  pub record FrontStands (dummy : ℕ) : Type 0 where
-    pub certificate : Certificate
-    pub asks : certificate.op ≡ Front queue
-    pub stands : WouldStand M t cs h certificate
-    pub records : words_recorded certificate ≡ head_at t queue ∷ next_at t dummy ∷ []
-
-  pub front_stands : (dummy : ℕ) → own.words.value (head_at t queue) ≡ link dummy → FrontStands dummy
-  front_stands dummy is = ⊎_elim
-      (λ zero.
-      let words : List WordValue = head_is (shape_in t) queue (link dummy) ∷ next_is (shape_in t) dummy 0 ∷ [] in
+  -- and where it names another one for good, a front reads that one's value
+  pub some_stands : (dummy first value : ℕ) → own.words.value (head_at t queue) ≡ link dummy → All (Holds now) (has_next queue dummy (link first) ∷ has_value queue first value ∷ [])
+      → LookStands (AsksFor (Front queue)) (head_at t queue ∷ [])
+  some_stands dummy first value head hold =
+      let read = head_is (shape_in t) queue (link dummy) in
       record {
-        certificate = behind ts (Front queue) (Value None) words [] [] [];
+        certificate = behind ts (Front queue) (Value (Some value)) (read ∷ []) [] [] (has_next queue dummy (link first) ∷ has_value queue first value ∷ []);
         asks = refl;
-        stands = looks (Front queue) (Value None) words [] (w.within, inr (record { dummy = dummy; reply = refl; recorded = refl; changes = refl; nodes = refl; facts = refl }))
-            (All-cons HasValue (head_is (shape_in t) queue (link dummy)) (next_is (shape_in t) dummy 0 ∷ []) is
-            (All-cons HasValue (next_is (shape_in t) dummy 0) [] zero (All-nil HasValue)))
-            (All-nil (Holds now));
-        records = refl;
-      })
-      (λ named.
-      let first = named.0 in
-      let value = now.words.value_of_node first in
-      let words : List WordValue = head_is (shape_in t) queue (link dummy) ∷ next_is (shape_in t) dummy (link first) ∷ [] in
-      record {
-        certificate = behind ts (Front queue) (Value (Some value)) words [] [] (has_value queue first value ∷ []);
-        asks = refl;
-        stands = looks (Front queue) (Value (Some value)) words (has_value queue first value ∷ [])
+        stands = looks (Front queue) (Value (Some value)) (read ∷ []) (has_next queue dummy (link first) ∷ has_value queue first value ∷ [])
             (w.within, inl (record { dummy = dummy; first = first; value = value; reply = refl; recorded = refl; changes = refl; nodes = refl; facts = refl }))
-            (All-cons HasValue (head_is (shape_in t) queue (link dummy)) (next_is (shape_in t) dummy (link first) ∷ []) is
-            (All-cons HasValue (next_is (shape_in t) dummy (link first)) [] named.1 (All-nil HasValue)))
-            (All-cons (Holds now) (has_value queue first value) [] (value_holds first named.2 named.3) (All-nil (Holds now)));
+            (one_word read head) hold;
         records = refl;
-      })
-      (next_one dummy (dummy_placed dummy is))
+      }
 
-  -- and so would a look at one more value than some that stand there
-  pub record LineStands (dummy : ℕ) (seen : List Seen) : Type 0 where
-    pub certificate : Certificate
-    pub asks : certificate.op ≡ Line queue (length seen + 1)
-    pub stands : WouldStand M t cs h certificate
-    pub records : words_recorded certificate ≡ words_along (shape_in t) queue dummy seen ++ next_at t (last_seen dummy seen) ∷ []
+  abbrev AsksLineOf : ℕ → Op → Type 0
+  AsksLineOf n op = op ≡ Line queue n
 
-  module _ (dummy : ℕ) (is : own.words.value (head_at t queue) ≡ link dummy) (seen : List Seen) (nexts : All HasValue (next_words (shape_in t) dummy seen))
-      (values : All (Holds now) (map (λ (s : Seen). has_value queue s.node s.value) seen)) where
-    abbrev last : ℕ
-    last = last_seen dummy seen
+  -- so with a look along the queue: it comes to the end, if the last node's next word is 0
+  pub line_to_end : (dummy : ℕ) (seen : List Seen) → own.words.value (head_at t queue) ≡ link dummy → All (Holds now) (facts_along queue dummy seen)
+      → own.words.value (next_at t (last_seen dummy seen)) ≡ 0 → LookStands (AsksLineOf (length seen + 1)) (head_at t queue ∷ next_at t (last_seen dummy seen) ∷ [])
+  line_to_end dummy seen head along zero =
+      let read = head_is (shape_in t) queue (link dummy) in
+      let end = next_is (shape_in t) (last_seen dummy seen) 0 in
+      let reply = TheLine (line_of (map (λ (s : Seen). s.value) seen)) in
+      let few : length seen < length seen + 1 = omega arith in
+      record {
+        certificate = behind ts (Line queue (length seen + 1)) reply (read ∷ end ∷ []) [] [] (facts_along queue dummy seen);
+        asks = refl;
+        stands = looks (Line queue (length seen + 1)) reply (read ∷ end ∷ []) (facts_along queue dummy seen) (
+          w.within,
+          record {
+            dummy = dummy;
+            seen = seen;
+            ending = end ∷ [];
+            ends = inr (record { fewer = few; is = refl });
+            reply = refl;
+            recorded = refl;
+            changes = refl;
+            nodes = refl;
+            facts = refl;
+          },
+        )
+            (All-cons HasValue read (end ∷ []) head (one_word end zero)) along;
+        records = refl;
+      }
 
-    abbrev head : WordValue
-    head = head_is (shape_in t) queue (link dummy)
+  -- and with a look at one value, whatever is there, if no other pass is live
+  pub record LineStands (word : ℕ) : Type 0 where
+    pub words : List ℕ
+    pub looks : LookStands (AsksLineOf 1) (word ∷ words)
 
-    to_end : own.words.value (next_at t last) ≡ 0 → LineStands dummy seen
-    to_end zero =
-        let end = next_is (shape_in t) last 0 in
-        let reply = TheLine (line_of (map (λ (s : Seen). s.value) seen)) in
-        let words : List WordValue = head ∷ (next_words (shape_in t) dummy seen ++ end ∷ []) in
-        let facts = map (λ (s : Seen). has_value queue s.node s.value) seen in
-        let few : length seen < length seen + 1 = omega arith in
-        record {
-          certificate = behind ts (Line queue (length seen + 1)) reply words [] [] facts;
-          asks = refl;
-          stands = looks (Line queue (length seen + 1)) reply words facts (
-            w.within,
-            record {
-              dummy = dummy;
-              seen = seen;
-              ending = end ∷ [];
-              ends = inr (record { fewer = few; is = refl });
-              reply = refl;
-              recorded = refl;
-              changes = refl;
-              nodes = refl;
-              facts = refl;
-            },
-          )
-              (All-cons HasValue head (next_words (shape_in t) dummy seen ++ end ∷ []) is
-              (All-append HasValue (next_words (shape_in t) dummy seen) (end ∷ []) nexts (All-cons HasValue end [] zero (All-nil HasValue))))
-              values;
-          records = ap (λ l. head_at t queue ∷ l) (map-append (λ (r : WordValue). r.word) (next_words (shape_in t) dummy seen) (end ∷ []));
-        }
-
-    one_more : (first : ℕ) → own.words.value (next_at t last) ≡ link first → now.placed first ≡ own.placed first → IsOf own queue first → LineStands dummy seen
-    one_more first named same placed =
+  module _ (same : SameValues own now) where
+    one_more : (dummy first : ℕ) → own.words.value (head_at t queue) ≡ link dummy → IsOf now queue dummy → next_of now.words dummy ≡ link first → IsOf now queue first
+        → LineStands (head_at t queue)
+    one_more dummy first head of_dummy named of_first =
+        let read = head_is (shape_in t) queue (link dummy) in
         let p : Seen = record { node = first; value = now.words.value_of_node first } in
-        let more = seen ++ p ∷ [] in
-        let reply = TheLine (line_of (map (λ (s : Seen). s.value) more)) in
-        let words : List WordValue = head ∷ (next_words (shape_in t) dummy more ++ []) in
-        let facts = map (λ (s : Seen). has_value queue s.node s.value) more in
-        let along = (look_goes_on (shape_in t) dummy seen p).0 in
-        let next = next_is (shape_in t) last (link first) in
-        let all : All HasValue (next_words (shape_in t) dummy more)
-        = subst (All HasValue) (sym along) (All-append HasValue (next_words (shape_in t) dummy seen) (next ∷ []) nexts (All-cons HasValue next [] named (All-nil HasValue))) in
+        let goes = has_next queue dummy (link first) in
+        let has = has_value queue first (now.words.value_of_node first) in
+        let exists = rises.nodes.exist first (Queue queue, of_first) in
         record {
-          certificate = behind ts (Line queue (length seen + 1)) reply words [] [] facts;
-          asks = refl;
-          stands = looks (Line queue (length seen + 1)) reply words facts (
-            w.within,
-            record {
-              dummy = dummy;
-              seen = more;
-              ending = [];
-              ends = inl (record { all = length-append seen (p ∷ []); is = refl });
-              reply = refl;
-              recorded = refl;
-              changes = refl;
-              nodes = refl;
-              facts = refl;
-            },
-          )
-              (All-cons HasValue head (next_words (shape_in t) dummy more ++ []) is (subst (All HasValue) (sym (append-nil (next_words (shape_in t) dummy more))) all))
-              (subst (All (Holds now)) (sym (map-append (λ (s : Seen). has_value queue s.node s.value) seen (p ∷ [])))
-              (All-append (Holds now) (map (λ (s : Seen). has_value queue s.node s.value) seen) (has_value queue p.node p.value ∷ []) values
-              (All-cons (Holds now) (has_value queue p.node p.value) [] (value_holds first same placed) (All-nil (Holds now)))));
-          records = ap (λ l. head_at t queue ∷ map (λ (r : WordValue). r.word) l) (append-nil (next_words (shape_in t) dummy more)) ∙ sym (words_more (shape_in t) queue dummy seen p);
+          words = [];
+          looks = record {
+            certificate = behind ts (Line queue 1) (TheLine (line_of (p.value ∷ []))) (read ∷ []) [] [] (goes ∷ has ∷ []);
+            asks = refl;
+            stands = looks (Line queue 1) (TheLine (line_of (p.value ∷ []))) (read ∷ []) (goes ∷ has ∷ []) (
+              w.within,
+              record {
+                dummy = dummy;
+                seen = p ∷ [];
+                ending = [];
+                ends = inl (record { all = refl; is = refl });
+                reply = refl;
+                recorded = refl;
+                changes = refl;
+                nodes = refl;
+                facts = refl;
+              },
+            )
+                (one_word read head)
+                (All-cons (Holds now) goes (has ∷ [])
+                (record { placed = of_dummy; key = tt; value = tt; next = (named, ap not (ne_eqb (link first) 0 (link_not_zero now.words.shape first exists))) })
+                (All-cons (Holds now) has [] (record { placed = of_first; key = tt; value = refl; next = tt }) (All-nil (Holds now))));
+            records = refl;
+          };
         }
 
-    pub line_stands : IsOf own queue (last_seen dummy seen) → LineStands dummy seen
-    line_stands placed = ⊎_elim to_end (λ named. one_more named.0 named.1 named.2 named.3) (next_one last placed)
-
-  -- a node that was one of the queue after the ended operations is one still
-  pub placed_then : (node : ℕ) → IsOf (after_wholes h cs) queue node → IsOf own queue node
-  placed_then node is = rises.nodes.placed node ∙ ap (λ (f : ℕ → Option Structure). f node) (bare_placed (after_wholes h cs) ts w.tidied.bare) ∙ is
+    pub line_first : LineStands (head_at t queue)
+    line_first =
+        let named = rises.there.head in
+        let dummy = named.0 in
+        let head : own.words.value (head_at t queue) ≡ link dummy
+        = same.value (head_at t queue) ∙ ap (λ (s : Shape). now.words.value (address s (queue_head queue))) (sym shape_now) ∙ named.2 in
+        ⊎_elim
+        (λ zero. record {
+          words = next_at t dummy ∷ [];
+          looks = line_to_end dummy [] head (All-nil (Holds now))
+              (same.value (next_at t dummy) ∙ ap (λ (s : Shape). now.words.value (address s (node_next dummy))) (sym shape_now) ∙ zero);
+        })
+        (λ next. one_more dummy next.0 head named.1 next.2 next.1)
+        (rises.there.next dummy named.1)

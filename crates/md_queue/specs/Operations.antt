@@ -100,9 +100,13 @@ pub record OperationAnswered (M : Meaning) (t u : TxnState) (op : Op) (reply : R
   pub goes : GoesBy M t u reads writes nodes
   pub by : (cs : List Certificate) → IsGoing M t cs → IsAnswered M t u cs op reply
 
--- how many words a dequeue records more, and writes more, by what it answers
+-- how many words a front and a dequeue record more, and how many a dequeue writes more, by what they answer
+abbrev pub front_reads : Option ℕ → ℕ
+front_reads (Some value) = 1
+front_reads None = 2
+
 abbrev pub dequeue_reads : Option ℕ → ℕ
-dequeue_reads (Some value) = 1
+dequeue_reads (Some value) = 0
 dequeue_reads None = 2
 
 abbrev pub dequeue_writes : Option ℕ → ℕ

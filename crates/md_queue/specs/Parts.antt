@@ -1,6 +1,6 @@
 -- What the parts of an operation leave.
 use Rattle.std.specs.Prelude.{◌≡◌, ◌+◌, ◌≤◌, ℕ, List, [], ◌∷◌, Some, length}
-use Rattle.md_history.specs.declared.acts.Op.TheVariants.{Dequeue}
+use Rattle.md_history.specs.declared.acts.Op.TheVariants.{Dequeue, Front}
 use Rattle.md_history.specs.declared.acts.Reply.TheVariants.{Value}
 use Rattle.md_machine.specs.declared.certificate.Certificate.{Certificate}
 use Rattle.md_machine.specs.Meaning.{Meaning}
@@ -19,9 +19,14 @@ module _ (M : Meaning) (t u : TxnState) (queue : ℕ) where
     pub sees : (cs : List Certificate) → SeesFirst M t queue cs head next → SeesFirst M u queue cs head next
     pub apart : TailDiffers u queue head.value
 
+  -- the first value was read, and the head recorded: the operation may be answered by it
+  pub record ReadsFirst (head next : Seen) (value : ℕ) : Type 0 where
+    pub goes : GoesBy M t u 1 0 0
+    pub answer : (cs : List Certificate) → SeesFirst M t queue cs head next → IsAnswered M t u cs (Front queue) (Value (Some value))
+
   -- the first value was taken: the operation may be answered by it, and the tail isn't left behind the head
   pub record TakesFirst (head next : Seen) (value : ℕ) : Type 0 where
-    pub goes : GoesBy M t u 1 1 0
+    pub goes : GoesBy M t u 0 1 0
     pub answer : (cs : List Certificate) → SeesFirst M t queue cs head next → IsAnswered M t u cs (Dequeue queue) (Value (Some value))
     pub tail : LeavesDummy u queue
 

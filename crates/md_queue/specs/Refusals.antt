@@ -2,7 +2,7 @@
 -- tell by the counts of acts that they are too many.
 use Rattle.std.specs.Prelude.{◌≡◌, ◌≢◌, ◌≤◌, ◌+◌, ◌++◌, ◌⊎◌, ℕ, false, List, [], ◌∷◌, All, Contains, None, Some, length}
 use Rattle.md_history.specs.declared.acts.Op.{Op}
-use Rattle.md_history.specs.declared.acts.Op.TheVariants.{Front, Line}
+use Rattle.md_history.specs.declared.acts.Op.TheVariants.{Dequeue, Front, Line}
 use Rattle.md_history.specs.declared.stops.Limit.{Limit}
 use Rattle.md_history.specs.declared.stops.Limit.TheVariants.{Nodes, Reads, Writes}
 use Rattle.md_history.specs.declared.stops.Stop.{Stop}
@@ -21,10 +21,10 @@ use Rattle.md_nbtc_law.specs.Known.{IsHeapOf, IsLater, found_by}
 use Rattle.md_nbtc_law.specs.State.{TxnState, shape_in, writes_in}
 use Rattle.md_nbtc_law.specs.Tidied.{HasTidied}
 use Rattle.md_queue_law.specs.QueueCertificates.{CertifiesQueue, MovesTail, Seen}
-use Rattle.md_queue.specs.Along.{HasLooked, words_along}
+use Rattle.md_queue.specs.Along.{HasLooked}
 use Rattle.md_queue.specs.Charged.{AreCharged}
 use Rattle.md_queue.specs.Operations.{RecordsAmong, words_recorded}
-use Rattle.md_queue.specs.Words.{tail_at}
+use Rattle.md_queue.specs.Words.{head_at, tail_at}
 
 module _ (M : Meaning) (v : TxnState) (cs : List Certificate) where
   -- a certificate of a queue would stand next in a heap, after those of the ended operations, and its moves of the tail
@@ -94,9 +94,13 @@ module _ (M : Meaning) (t u : TxnState) (cs : List Certificate) where
   abbrev pub ChangeRefused : Op → Type 0
   ChangeRefused op = (v : TxnState) × StoodAtRefusal M t u cs (Limited Writes) v × WasToChange M v cs t op
 
--- an operation that asks for a queue's first value, and one that asks for at most so many of them
-abbrev pub AsksFront : (queue : ℕ) → Op → Type 0
-AsksFront queue op = op ≡ Front queue
+-- an operation that asks for a queue's first value, this operation alone, and one that asks for at most so many of a
+-- queue's first values
+abbrev pub AsksFirst : (queue : ℕ) → Op → Type 0
+AsksFirst queue op = (op ≡ Front queue) ⊎ (op ≡ Dequeue queue)
+
+abbrev pub AsksFor : Op → Op → Type 0
+AsksFor this op = op ≡ this
 
 abbrev pub AsksLine : (queue n : ℕ) → Op → Type 0
 AsksLine queue n op = (m : ℕ) × (1 ≤ m) × (m ≤ n) × (op ≡ Line queue m)
@@ -114,10 +118,10 @@ IfBy limit t s P = s ≡ Limited limit → BeganAlone t → P
 abbrev pub RefusesReads : Meaning → (t u : TxnState) → (Asks : Op → Type 0) → Stop → Type 0
 RefusesReads M t u Asks s = IfBy Reads t s ((cs : List Certificate) → IsGoing M t cs → ReadRefused M t u cs Asks)
 
--- a look at one more node of a queue was refused so, for whatever was recorded by the nodes before it
+-- a look at one more node of a queue was refused so, if the nodes before it were passed
 abbrev pub RefusesNext : Meaning → (t u : TxnState) → (node : ℕ) → Stop → Type 0
 RefusesNext M t u node s = IfBy Reads t s ((before : TxnState) (queue : ℕ) (cs : List Certificate) (dummy : ℕ) (seen : List Seen) → IsLater before t
-    → HasLooked M t queue cs dummy node seen → RecordsAmong before t (words_along (shape_in t) queue dummy seen) → ReadRefused M before u cs (AsksLine queue (length seen + 1)))
+    → HasLooked M t queue cs dummy node seen → RecordsAmong before t (head_at t queue ∷ []) → ReadRefused M before u cs (AsksLine queue (length seen + 1)))
 
 -- an operation that changes a queue was refused by the limit of writes
 abbrev pub RefusesWrites : Meaning → (t u : TxnState) → (queue : ℕ) → Op → Stop → Type 0

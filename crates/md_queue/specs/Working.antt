@@ -1,5 +1,5 @@
 -- What a transaction sees of a queue while one of its operations is under way.
-use Rattle.std.specs.Prelude.{◌≡◌, ◌≢◌, ◌≤◌, ◌<◌, ◌⊎◌, ℕ, true, false, List, [], ◌∷◌, Contains, is_some, if◌then◌else◌}
+use Rattle.std.specs.Prelude.{◌≡◌, ◌≤◌, ◌<◌, ◌⊎◌, ℕ, true, false, List, [], ◌∷◌, Contains, is_some, if◌then◌else◌}
 use Rattle.md_words.specs.Layout.{IsNode}
 use Rattle.md_words.specs.Link.{linked_node}
 use Rattle.md_machine.specs.declared.certificate.Certificate.{Certificate}
@@ -58,9 +58,9 @@ pub record IsKnownAs (M : Meaning) (t : TxnState) (cs : List Certificate) (ts : 
   pub found : is_some (first_content t.reads (writes_in t) r.word) ≡ true
   pub value : Known M t (λ u h. (tidied (found_by u h) cs ts).words.value r.word ≡ r.value)
 
--- the words that show the first value: the head, and the next word of its node
-abbrev pub first_words : TxnState → (queue : ℕ) → (head : Seen) → List ℕ
-first_words t queue head = head_at t queue ∷ next_at t (linked_node head.value) ∷ []
+-- the words that show that there is no first value: the head, and the next word of its node
+abbrev pub none_words : TxnState → (queue : ℕ) → (head : Seen) → List ℕ
+none_words t queue head = head_at t queue ∷ next_at t (linked_node head.value) ∷ []
 
 module _ (M : Meaning) (t : TxnState) (queue : ℕ) (cs : List Certificate) (head next : Seen) where
   -- what was seen in the head, and in the next word of its node
@@ -70,14 +70,14 @@ module _ (M : Meaning) (t : TxnState) (queue : ℕ) (cs : List Certificate) (hea
     pub head_sees : SeesAt M t (head_at t queue) head
     pub next_sees : SeesNext M t cs queue (linked_node head.value) next
 
-  -- both were recorded, or written
-  pub record NotedFirst : Type 0 where
+module _ (M : Meaning) (t : TxnState) (queue : ℕ) (cs : List Certificate) (head : Seen) where
+  -- both were recorded, or written, and show that the queue is empty
+  pub record NotedNone : Type 0 where
     pub changes : List TidyChange
     pub working : IsWorking M t queue cs changes
     pub head_named : NamesNode M t cs queue head.value
     pub head_noted : IsKnownAs M t cs changes (head_is (shape_in t) queue head.value)
-    pub next_noted : IsKnownAs M t cs changes (next_is (shape_in t) (linked_node head.value) next.value)
-    pub next_named : next.value ≢ 0 → NamesNode M t cs queue next.value
+    pub next_noted : IsKnownAs M t cs changes (next_is (shape_in t) (linked_node head.value) 0)
 
 module _ (M : Meaning) (t : TxnState) (queue : ℕ) (cs : List Certificate) (tail : Seen) where
   -- what was seen in the tail, whose node has at least this rank

@@ -1,6 +1,7 @@
 //! The first value of a queue.
 
 ghost use Rattle.std.specs.Prelude.{◌≡◌, ◌≢◌, IfOk, IfErr, IfSome, List};
+ghost use Rattle.md_history.specs.declared.acts.Op.{Op};
 ghost use Rattle.md_history.specs.declared.acts.Op.TheVariants.{Dequeue, Front};
 ghost use Rattle.md_history.specs.declared.acts.Reply.TheVariants.{Value};
 ghost use Rattle.md_history.specs.declared.stops.Limit.{Limit};
@@ -11,11 +12,11 @@ ghost use Rattle.md_nbtc.specs.State.{state};
 ghost use Rattle.md_queue.specs.Operations.{OperationAnswered, GoesBy, IsBegun, IsNotBy};
 ghost use Rattle.md_queue.specs.Operations.{RefusedOtherwise};
 ghost use Rattle.md_queue.specs.Operations.{LeavesDummy, RecordsAmong, StaysStopped, TailDiffers};
-ghost use Rattle.md_queue.specs.Operations.{dequeue_reads, dequeue_writes};
-ghost use Rattle.md_queue.specs.Parts.{FollowsTail, TakesFirst};
-ghost use Rattle.md_queue.specs.Refusals.{AsksFront, ChangeRefused, IfBy, MoveRefused};
+ghost use Rattle.md_queue.specs.Operations.{dequeue_reads, dequeue_writes, front_reads};
+ghost use Rattle.md_queue.specs.Parts.{FollowsTail, ReadsFirst, TakesFirst};
+ghost use Rattle.md_queue.specs.Refusals.{AsksFirst, AsksFor, ChangeRefused, IfBy, MoveRefused};
 ghost use Rattle.md_queue.specs.Refusals.{ReadRefused, RefusesReads, RefusesWrites};
-ghost use Rattle.md_queue.specs.Working.{NotedFirst, SeesFirst, first_words};
+ghost use Rattle.md_queue.specs.Working.{NotedNone, SeesFirst, none_words};
 
 use crate::words::{load_next, move_tail, note_next, value_of};
 use md_history::Stop;
@@ -47,22 +48,24 @@ fn load_first<'a, T: HasQueues>(tx: &mut Txn<'a, T>, queue: u32) -> Result<First
     Ok(First { head, next })
 }
 
-// Records both.
+// Records both. They show that the queue is empty.
 #[inline(always)]
-fn note_first<'a, T: HasQueues>(tx: &mut Txn<'a, T>, queue: u32, first: First) -> Result<(), Stop>
+fn note_none<'a, T: HasQueues>(tx: &mut Txn<'a, T>, queue: u32, first: First) -> Result<(), Stop>
     requires sees { (cs : List Certificate)
         × SeesFirst T.meaning (state tx.old) queue cs first.head first.next }
+    requires none { first.next.value ≡ 0 }
     ensures pass { tx.new.pass.ghost_name ≡ tx.old.pass.ghost_name }
     ensures goes { IfOk result (λ done. GoesBy T.meaning (state tx.old) (state tx.new) 2 0 0) }
     ensures among { IfOk result (λ done. RecordsAmong (state tx.old) (state tx.new)
-        (first_words (state tx.old) queue first.head)) }
+        (none_words (state tx.old) queue first.head)) }
     ensures noted { IfOk result (λ done. (cs : List Certificate)
         → SeesFirst T.meaning (state tx.old) queue cs first.head first.next
-        → NotedFirst T.meaning (state tx.new) queue cs first.head first.next) }
+        → NotedNone T.meaning (state tx.new) queue cs first.head) }
     ensures stop { IfErr result (RefusedOtherwise T.meaning (state tx.old) (state tx.new) 2 0) }
     ensures reads { IfErr result (λ s. IfBy Reads (state tx.old) s ((cs : List Certificate)
         → SeesFirst T.meaning (state tx.old) queue cs first.head first.next
-        → ReadRefused T.meaning (state tx.old) (state tx.new) cs (AsksFront queue))) }
+        → (op : Op) → AsksFirst queue op
+        → ReadRefused T.meaning (state tx.old) (state tx.new) cs (AsksFor op))) }
     ensures no_writes { IfErr result (IsNotBy (state tx.old) Writes) }
 {
     let head_word = tx.shape().queue_head(queue);
@@ -72,12 +75,33 @@ fn note_first<'a, T: HasQueues>(tx: &mut Txn<'a, T>, queue: u32, first: First) -
     Ok(())
 }
 
+// Records the head, and returns the value of the next node.
+fn read_first<'a, T: HasQueues>(tx: &mut Txn<'a, T>, queue: u32, first: First) -> Result<u64, Stop>
+    requires sees { (cs : List Certificate)
+        × SeesFirst T.meaning (state tx.old) queue cs first.head first.next }
+    requires some { first.next.value ≢ 0 }
+    ensures pass { tx.new.pass.ghost_name ≡ tx.old.pass.ghost_name }
+    ensures reads { IfOk result (λ value. ReadsFirst T.meaning (state tx.old) (state tx.new) queue
+        first.head first.next value) }
+    ensures stop { IfErr result (RefusedOtherwise T.meaning (state tx.old) (state tx.new) 1 0) }
+    ensures refused { IfErr result (λ s. IfBy Reads (state tx.old) s ((cs : List Certificate)
+        → SeesFirst T.meaning (state tx.old) queue cs first.head first.next
+        → ReadRefused T.meaning (state tx.old) (state tx.new) cs (AsksFor (Front queue)))) }
+    ensures no_writes { IfErr result (IsNotBy (state tx.old) Writes) }
+{
+    let node = first.next.value / 2;
+    let value = value_of(tx, node);
+    let head_word = tx.shape().queue_head(queue);
+    tx.note(head_word, first.head)?;
+    Ok(value)
+}
+
 /// Returns the first value of a queue of the field, or `None` if it is empty, as an operation of a
 /// transaction that was just begun. The caller ends the operation with the result as the reply of a
 /// `Front`.
 ///
-/// It records at most two more words: the head, and the next word of its node. It writes no word
-/// and takes no node.
+/// If there is a value, it records the head: the next word of its node isn't 0, so it never
+/// changes. If there is none, it records that next word too. It writes no word and takes no node.
 ///
 /// If a load or a note is refused, it returns that stop, and the transaction keeps it:
 ///
@@ -87,28 +111,30 @@ fn note_first<'a, T: HasQueues>(tx: &mut Txn<'a, T>, queue: u32, first: First) -
 /// It never returns `Limit(Nodes)` or `Limit(Writes)`. If the transaction has stopped before, it
 /// returns the same stop and does nothing.
 ///
-/// It takes seven steps: two loads, two notes of two steps, and the value. If the queue is empty,
-/// it takes six. A note of a word that is recorded already takes no step. A load takes more steps
-/// if another's descriptor stands in the word (`Txn::load`). The call takes no memory.
+/// It takes five steps: two loads, the value, and two for a note. If the queue is empty, it takes
+/// six: two loads, and two notes. A note of a word that is recorded already takes no step. A load
+/// takes more steps if another's descriptor stands in the word (`Txn::load`). The call takes no
+/// memory.
 ///
 /// Michael and Scott's queue has no such operation. It is their dequeue without the change.
 pub fn front<'a, T: HasQueues>(tx: &mut Txn<'a, T>, queue: u32) -> Result<Option<u64>, Stop>
     requires begun { IsBegun T.meaning (state tx.old) queue }
     ensures pass { tx.new.pass.ghost_name ≡ tx.old.pass.ghost_name }
     ensures answer { IfOk result (λ value. OperationAnswered T.meaning (state tx.old) (state tx.new)
-        (Front queue) (Value value) 2 0 0) }
+        (Front queue) (Value value) (front_reads value) 0 0) }
     ensures stop { IfErr result (RefusedOtherwise T.meaning (state tx.old) (state tx.new) 2 0) }
     ensures reads { IfErr result (RefusesReads T.meaning (state tx.old) (state tx.new)
-        (AsksFront queue)) }
+        (AsksFor (Front queue))) }
     ensures no_writes { IfErr result (IsNotBy (state tx.old) Writes) }
     ensures stopped { StaysStopped (state tx.old) (state tx.new) result }
 {
     let first = load_first(tx, queue)?;
-    note_first(tx, queue, first)?;
     if first.next.value == 0 {
+        note_none(tx, queue, first)?;
         return Ok(None);
     }
-    Ok(Some(value_of(tx, first.next.value / 2)))
+    let value = read_first(tx, queue, first)?;
+    Ok(Some(value))
 }
 
 // Moves the tail from the head's node to the next one, if it is still there.
@@ -142,15 +168,12 @@ fn take_first<'a, T: HasQueues>(tx: &mut Txn<'a, T>, queue: u32, first: First) -
     ensures pass { tx.new.pass.ghost_name ≡ tx.old.pass.ghost_name }
     ensures takes { IfOk result (λ value. TakesFirst T.meaning (state tx.old) (state tx.new) queue
         first.head first.next value) }
-    ensures stop { IfErr result (RefusedOtherwise T.meaning (state tx.old) (state tx.new) 1 1) }
-    ensures reads { IfErr result (λ s. IfBy Reads (state tx.old) s ((cs : List Certificate)
-        → SeesFirst T.meaning (state tx.old) queue cs first.head first.next
-        → ReadRefused T.meaning (state tx.old) (state tx.new) cs (AsksFront queue))) }
+    ensures stop { IfErr result (RefusedOtherwise T.meaning (state tx.old) (state tx.new) 0 1) }
+    ensures no_reads { IfErr result (IsNotBy (state tx.old) Reads) }
     ensures writes { IfErr result (λ s. IfBy Writes (state tx.old) s ((cs : List Certificate)
         → SeesFirst T.meaning (state tx.old) queue cs first.head first.next
         → ChangeRefused T.meaning (state tx.old) (state tx.new) cs (Dequeue queue))) }
 {
-    note_next(tx, first.head.value / 2, first.next)?;
     let value = value_of(tx, first.next.value / 2);
     let head_word = tx.shape().queue_head(queue);
     tx.exchange(head_word, first.head, first.next.value, Kind::Critical)?;
@@ -162,9 +185,10 @@ fn take_first<'a, T: HasQueues>(tx: &mut Txn<'a, T>, queue: u32, first: First) -
 /// with the result as the reply of a `Dequeue`.
 ///
 /// If there is a value, it changes the head to the value's node as a part of the transaction, and
-/// records the next word of the head's old node. If the tail still names the old node, it first
-/// moves the tail along, so that the tail isn't left behind the head. If there is no value, it
-/// writes no word, and records the head and the next word of its node. It takes no node.
+/// records no word: the next word of the head's old node isn't 0, so it never changes. If the tail
+/// still names the old node, it first moves the tail along, so that the tail isn't left behind the
+/// head. If there is no value, it writes no word, and records the head and the next word of its
+/// node, which is 0. It takes no node.
 ///
 /// If a load, a note or an exchange is refused, it returns that stop, and the transaction keeps it.
 /// Then it has recorded at most two more words and written at most two:
@@ -178,19 +202,19 @@ fn take_first<'a, T: HasQueues>(tx: &mut Txn<'a, T>, queue: u32, first: First) -
 /// It never returns `Limit(Nodes)`. If the transaction has stopped before, it returns the same stop
 /// and does nothing.
 ///
-/// It takes ten steps: three loads, two for a note, the value, and four to change the head. If the
-/// queue is empty, it takes six. If the tail must be moved, it takes one more, or four if the move
-/// is a part of the transaction. It takes fewer if a word is recorded already or is an own one. A
-/// load takes more steps if another's descriptor stands in the word (`Txn::load`). The call takes
-/// no memory.
+/// It takes eight steps: three loads, the value, and four to change the head. If the queue is
+/// empty, it takes six: two loads, and two notes of two steps. If the tail must be moved, it takes
+/// one more, or four if the move is a part of the transaction. It takes fewer if a word is recorded
+/// already or is an own one. A load takes more steps if another's descriptor stands in the word
+/// (`Txn::load`). The call takes no memory.
 ///
 /// After M. M. Michael and M. L. Scott, "Simple, Fast, and Practical Non-Blocking and Blocking
 /// Concurrent Queue Algorithms" (1996), with three differences. It doesn't look at the head again
 /// after it has read the next word. It doesn't look at the tail before it finds the queue empty. In
-/// place of both looks, the words that the reply depends on are recorded or changed, and the
-/// transaction commits only if they still stand. A lost exchange isn't tried again, since the
-/// transaction then stops. And the node that the head leaves isn't freed: it stays taken until the
-/// field is renewed.
+/// place of both looks, the transaction records or changes each word that the reply depends on and
+/// that can change, and commits only if these still stand. A lost exchange isn't tried again, since
+/// the transaction then stops. And the node that the head leaves isn't freed: it stays taken until
+/// the field is renewed.
 pub fn dequeue<'a, T: HasQueues>(tx: &mut Txn<'a, T>, queue: u32) -> Result<Option<u64>, Stop>
     requires begun { IsBegun T.meaning (state tx.old) queue }
     ensures pass { tx.new.pass.ghost_name ≡ tx.old.pass.ghost_name }
@@ -199,14 +223,14 @@ pub fn dequeue<'a, T: HasQueues>(tx: &mut Txn<'a, T>, queue: u32) -> Result<Opti
     ensures tail { IfOk result (λ value. IfSome value (λ v. LeavesDummy (state tx.new) queue)) }
     ensures stop { IfErr result (RefusedOtherwise T.meaning (state tx.old) (state tx.new) 2 2) }
     ensures reads { IfErr result (RefusesReads T.meaning (state tx.old) (state tx.new)
-        (AsksFront queue)) }
+        (AsksFor (Dequeue queue))) }
     ensures writes { IfErr result (RefusesWrites T.meaning (state tx.old) (state tx.new) queue
         (Dequeue queue)) }
     ensures stopped { StaysStopped (state tx.old) (state tx.new) result }
 {
     let first = load_first(tx, queue)?;
     if first.next.value == 0 {
-        note_first(tx, queue, first)?;
+        note_none(tx, queue, first)?;
         return Ok(None);
     }
     follow_tail(tx, queue, first)?;

@@ -1,6 +1,6 @@
 //! The first values of a queue.
 
-ghost use Rattle.std.specs.Prelude.{◌≡◌, ◌+◌, [], ◌∷◌, ℕ, List, IfOk, IfErr};
+ghost use Rattle.std.specs.Prelude.{◌≡◌, ℕ, List, IfOk, IfErr};
 ghost use Rattle.md_history.specs.declared.acts.Op.TheVariants.{Line as LineOf};
 ghost use Rattle.md_history.specs.declared.acts.Reply.TheVariants.{Line as TheLine};
 ghost use Rattle.md_history.specs.declared.stops.Limit.TheVariants.{Writes};
@@ -8,12 +8,11 @@ ghost use Rattle.md_history.specs.Calls.{IsLineLength};
 ghost use Rattle.md_machine.specs.declared.certificate.Certificate.{Certificate};
 ghost use Rattle.md_nbtc.specs.State.{state};
 ghost use Rattle.md_queue_law.specs.QueueCertificates.{Seen};
-ghost use Rattle.md_queue.specs.Along.{HasLooked, LooksFurther};
+ghost use Rattle.md_queue.specs.Along.{HasLooked, LooksFurther, end_reads, end_words};
 ghost use Rattle.md_queue.specs.Operations.{OperationAnswered, GoesBy, IsBegun, IsNotBy};
 ghost use Rattle.md_queue.specs.Operations.{RecordsAmong, RefusedOtherwise, StaysStopped};
 ghost use Rattle.md_queue.specs.Parts.{PassesHead};
 ghost use Rattle.md_queue.specs.Refusals.{AsksLine, RefusesNext, RefusesReads};
-ghost use Rattle.md_queue.specs.Words.{next_at};
 
 use crate::words::{load_next, note_next, value_of};
 use md_history::{Line, MAX_LINE, Stop};
@@ -45,14 +44,16 @@ fn pass_head<'a, T: HasQueues>(tx: &mut Txn<'a, T>, queue: u32) -> Result<u32, S
     Ok(head.value / 2)
 }
 
-// Looks at the next word of a node, and records it. The node that it names with its value, if any.
+// Looks at the next word of a node. The node that it names with its value; if there is none, the
+// word is 0, and is recorded.
 fn pass_next<'a, T: HasQueues>(tx: &mut Txn<'a, T>, node: u32) -> Result<Option<Passed>, Stop>
     requires looked { (queue : ℕ) × (cs : List Certificate) × (dummy : ℕ) × (seen : List Seen)
         × HasLooked T.meaning (state tx.old) queue cs dummy node seen }
     ensures pass { tx.new.pass.ghost_name ≡ tx.old.pass.ghost_name }
-    ensures goes { IfOk result (λ passed. GoesBy T.meaning (state tx.old) (state tx.new) 1 0 0) }
+    ensures goes { IfOk result (λ passed. GoesBy T.meaning (state tx.old) (state tx.new)
+        (end_reads passed) 0 0) }
     ensures among { IfOk result (λ passed. RecordsAmong (state tx.old) (state tx.new)
-        (next_at (state tx.old) node ∷ [])) }
+        (end_words (state tx.old) node passed)) }
     ensures further { IfOk result (λ passed. (queue : ℕ) (cs : List Certificate) (dummy : ℕ)
         (seen : List Seen) → HasLooked T.meaning (state tx.old) queue cs dummy node seen
         → LooksFurther T.meaning (state tx.new) queue cs dummy node seen passed) }
@@ -61,8 +62,8 @@ fn pass_next<'a, T: HasQueues>(tx: &mut Txn<'a, T>, node: u32) -> Result<Option<
     ensures no_writes { IfErr result (IsNotBy (state tx.old) Writes) }
 {
     let next = load_next(tx, node)?;
-    note_next(tx, node, next)?;
     if next.value == 0 {
+        note_next(tx, node, next)?;
         return Ok(None);
     }
     let node = next.value / 2;
@@ -74,8 +75,9 @@ fn pass_next<'a, T: HasQueues>(tx: &mut Txn<'a, T>, node: u32) -> Result<Option<
 /// of a transaction that was just begun. `n` is from 1 to 12. The caller ends the operation with
 /// the result as the reply of a `Line`.
 ///
-/// It records at most `n + 1` more words: the head, and the next words of the nodes on the way. If
-/// there are fewer than `n` values, the last next word is 0. It writes no word and takes no node.
+/// It records the head. The next words on the way aren't 0, so they never change. If there are
+/// fewer than `n` values, it records the last next word too, which is 0. It writes no word and
+/// takes no node.
 ///
 /// If a load or a note is refused, it returns that stop, and the transaction keeps it:
 ///
@@ -85,10 +87,10 @@ fn pass_next<'a, T: HasQueues>(tx: &mut Txn<'a, T>, node: u32) -> Result<Option<
 /// It never returns `Limit(Nodes)` or `Limit(Writes)`. If the transaction has stopped before, it
 /// returns the same stop and does nothing.
 ///
-/// It takes three steps for the head: a load, and two for the note. It takes four for each value: a
-/// load, two for the note, and the value. It takes three for a next word that is 0. A note of a
-/// word that is recorded already takes no step. A load takes more steps if another's descriptor
-/// stands in the word (`Txn::load`). The call takes no memory.
+/// It takes three steps for the head: a load, and two for the note. It takes two for each value: a
+/// load, and the value. It takes three for a next word that is 0. A note of a word that is recorded
+/// already takes no step. A load takes more steps if another's descriptor stands in the word
+/// (`Txn::load`). The call takes no memory.
 ///
 /// This is Medley's own. Michael and Scott's queue has no look at more than one value.
 pub fn line<'a, T: HasQueues>(tx: &mut Txn<'a, T>, queue: u32, n: u8) -> Result<Line, Stop>
@@ -96,9 +98,8 @@ pub fn line<'a, T: HasQueues>(tx: &mut Txn<'a, T>, queue: u32, n: u8) -> Result<
     requires few { IsLineLength n }
     ensures pass { tx.new.pass.ghost_name ≡ tx.old.pass.ghost_name }
     ensures answer { IfOk result (λ line. OperationAnswered T.meaning (state tx.old) (state tx.new)
-        (LineOf queue n) (TheLine line) (n + 1) 0 0) }
-    ensures stop { IfErr result (RefusedOtherwise T.meaning (state tx.old) (state tx.new) (n + 1)
-        0) }
+        (LineOf queue n) (TheLine line) 2 0 0) }
+    ensures stop { IfErr result (RefusedOtherwise T.meaning (state tx.old) (state tx.new) 2 0) }
     ensures reads { IfErr result (RefusesReads T.meaning (state tx.old) (state tx.new)
         (AsksLine queue n)) }
     ensures no_writes { IfErr result (IsNotBy (state tx.old) Writes) }

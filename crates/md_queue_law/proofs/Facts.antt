@@ -3,7 +3,7 @@ use Rattle.std.proofs.Common.{◌≡◌, ◌≢◌, ℕ, suc, ◌<◌, ◌≤◌
 use Rattle.md_words.specs.Layout.{IsNode, node_count}
 use Rattle.md_machine.specs.LogicalHeap.{LogicalHeap, next_of}
 use Rattle.md_queue_law.specs.QueueShape.{link, IsOf, QueueShape}
-use Rattle.md_queue_law.specs.QueueCertificates.{next_is}
+use Rattle.md_queue_law.specs.QueueCertificates.{has_next, has_value}
 use Rattle.md_queue_law.specs.QueueFacts.{LookGoesOn}
 use Rattle.md_queue_law.specs.Laws.Walk.{line_fits}
 use Rattle.md_queue_law.specs.Laws.Named.{next_cases, ends_is_last}
@@ -37,7 +37,7 @@ module _ (h : LogicalHeap) (queue : ℕ) (s : QueueShape h queue) where
 
 -- one more node seen
 pub look_goes_on : LookGoesOn
-look_goes_on shape node [] s = (refl, refl)
-look_goes_on shape node (first ∷ seen) s =
-    let rest = look_goes_on shape first.node seen s in
-    (ap (λ ws. next_is shape node (link first.node) ∷ ws) rest.0, rest.1)
+look_goes_on queue node [] s = (refl, refl)
+look_goes_on queue node (first ∷ seen) s =
+    let rest = look_goes_on queue first.node seen s in
+    (ap (λ fs. has_next queue node (link first.node) ∷ has_value queue first.node first.value ∷ fs) rest.0, rest.1)

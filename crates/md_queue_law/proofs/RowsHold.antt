@@ -20,7 +20,7 @@ use Rattle.md_queue_law.specs.Laws.QueueLaws.{queue_lawful}
 use Rattle.md_queue_law.specs.QueueCertificates.{Seen, has_key, has_next}
 use Rattle.md_queue_law.specs.Laws.Following.{put_other}
 use Rattle.md_queue_law.specs.Laws.Looking.{IsThere}
-use Rattle.md_queue_law.specs.Rows.{WorkedRows, dequeues_8, dequeues_9, empty_heap, enqueues_8, enqueues_9, finds_8, finds_none, has_8, has_9, looks_at_2, looks_at_3, moved, moves_tail, none_left, one_left, one_value, queue_shape, two_values}
+use Rattle.md_queue_law.specs.Rows.{WorkedRows, both_along, dequeues_8, dequeues_9, empty_heap, enqueues_8, enqueues_9, finds_8, finds_none, goes_to_2, goes_to_3, has_8, has_9, looks_at_2, looks_at_3, moved, moves_tail, none_left, one_left, one_value, queue_shape, two_values}
 
 -- the dummy is the one node that is placed at first
 only_dummy : (node : ℕ) (s : Structure) → empty_heap.placed node ≡ Some s → (node ≡ 1) × (s ≡ Queue 0)
@@ -151,6 +151,19 @@ holds_8 : Holds moved has_8
 unfolding address
 holds_8 = record { placed = refl; key = tt; value = refl; next = tt }
 
+-- and their next words stay
+goes_2 : Holds moved goes_to_2
+unfolding address
+goes_2 = record { placed = refl; key = tt; value = tt; next = (refl, refl) }
+
+goes_3 : Holds moved goes_to_3
+unfolding address
+goes_3 = record { placed = refl; key = tt; value = tt; next = (refl, refl) }
+
+along_holds : All (Holds moved) both_along
+along_holds = All-cons (Holds moved) goes_to_2 (has_9 ∷ goes_to_3 ∷ has_8 ∷ []) goes_2
+    (All-cons (Holds moved) has_9 (goes_to_3 ∷ has_8 ∷ []) holds_9 (two (Holds moved) goes_to_3 has_8 goes_3 holds_8))
+
 -- the words that were recorded
 abbrev there : (word value : ℕ) → WordValue
 there word value = record { word = word; value = value }
@@ -177,9 +190,7 @@ looks_at_2_certifies = (
 
 looks_at_2_stands : Stands moved looks_at_2
 unfolding address
-looks_at_2_stands = stands_with moved looks_at_2
-    (All-cons (IsThere moved) (there 65 2) (there 69 4 ∷ there 72 6 ∷ []) refl (two (IsThere moved) (there 69 4) (there 72 6) refl refl))
-    (All-nil (IsOld moved)) (two (Holds moved) has_9 has_8 holds_9 holds_8) (All-nil (IsFresh moved))
+looks_at_2_stands = stands_with moved looks_at_2 (one (IsThere moved) (there 65 2) refl) (All-nil (IsOld moved)) along_holds (All-nil (IsFresh moved))
 
 looks_at_3_certifies : queue_meaning.certifies queue_shape looks_at_3
 unfolding address link_value both_seen
@@ -200,10 +211,8 @@ looks_at_3_certifies = (
 
 looks_at_3_stands : Stands moved looks_at_3
 unfolding address
-looks_at_3_stands = stands_with moved looks_at_3
-    (All-cons (IsThere moved) (there 65 2) (there 69 4 ∷ there 72 6 ∷ there 75 0 ∷ []) refl
-    (All-cons (IsThere moved) (there 69 4) (there 72 6 ∷ there 75 0 ∷ []) refl (two (IsThere moved) (there 72 6) (there 75 0) refl refl)))
-    (All-nil (IsOld moved)) (two (Holds moved) has_9 has_8 holds_9 holds_8) (All-nil (IsFresh moved))
+looks_at_3_stands = stands_with moved looks_at_3 (two (IsThere moved) (there 65 2) (there 75 0) refl refl) (All-nil (IsOld moved)) along_holds
+    (All-nil (IsFresh moved))
 
 dequeues_9_certifies : queue_meaning.certifies queue_shape dequeues_9
 unfolding address link_value
@@ -211,8 +220,8 @@ dequeues_9_certifies = (lit< tt, inl (record { dummy = 1; first = 2; value = 9; 
 
 dequeues_9_stands : Stands moved dequeues_9
 unfolding address
-dequeues_9_stands = stands_with moved dequeues_9 (one (IsThere moved) (there 69 4) refl) (one (IsOld moved) (record { word = 65; old = 2; new = 4 }) refl)
-    (one (Holds moved) has_9 holds_9) (All-nil (IsFresh moved))
+dequeues_9_stands = stands_with moved dequeues_9 (All-nil (IsThere moved)) (one (IsOld moved) (record { word = 65; old = 2; new = 4 }) refl)
+    (two (Holds moved) goes_to_2 has_9 goes_2 holds_9) (All-nil (IsFresh moved))
 
 left_valid : IsQueueHeap one_left
 left_valid = still_valid moved dequeues_9 moved_valid dequeues_9_certifies dequeues_9_stands
@@ -221,14 +230,18 @@ still_holds_8 : Holds one_left has_8
 unfolding address
 still_holds_8 = record { placed = refl; key = tt; value = refl; next = tt }
 
+still_goes_3 : Holds one_left goes_to_3
+unfolding address
+still_goes_3 = record { placed = refl; key = tt; value = tt; next = (refl, refl) }
+
 finds_8_certifies : queue_meaning.certifies queue_shape finds_8
 unfolding address link_value
 finds_8_certifies = (lit< tt, inl (record { dummy = 2; first = 3; value = 8; reply = refl; recorded = refl; changes = refl; nodes = refl; facts = refl }))
 
 finds_8_stands : Stands one_left finds_8
 unfolding address
-finds_8_stands = stands_with one_left finds_8 (two (IsThere one_left) (there 65 4) (there 72 6) refl refl) (All-nil (IsOld one_left))
-    (one (Holds one_left) has_8 still_holds_8) (All-nil (IsFresh one_left))
+finds_8_stands = stands_with one_left finds_8 (one (IsThere one_left) (there 65 4) refl) (All-nil (IsOld one_left))
+    (two (Holds one_left) goes_to_3 has_8 still_goes_3 still_holds_8) (All-nil (IsFresh one_left))
 
 dequeues_8_certifies : queue_meaning.certifies queue_shape dequeues_8
 unfolding address link_value
@@ -236,9 +249,9 @@ dequeues_8_certifies = (lit< tt, inl (record { dummy = 2; first = 3; value = 8; 
 
 dequeues_8_stands : Stands one_left dequeues_8
 unfolding address
-dequeues_8_stands = stands_with one_left dequeues_8 (one (IsThere one_left) (there 72 6) refl)
+dequeues_8_stands = stands_with one_left dequeues_8 (All-nil (IsThere one_left))
     (one (IsOld one_left) (record { word = 65; old = 4; new = 6 }) refl)
-    (one (Holds one_left) has_8 still_holds_8) (All-nil (IsFresh one_left))
+    (two (Holds one_left) goes_to_3 has_8 still_goes_3 still_holds_8) (All-nil (IsFresh one_left))
 
 none_valid : IsQueueHeap none_left
 none_valid = still_valid one_left dequeues_8 left_valid dequeues_8_certifies dequeues_8_stands

@@ -1,5 +1,5 @@
 -- The certificates of a queue's operations, and the move of its tail.
-use Rattle.std.specs.Prelude.{◌≡◌, ◌<◌, ◌+◌, ◌++◌, ◌⊎◌, ℕ, List, [], ◌∷◌, map, length, Some, None}
+use Rattle.std.specs.Prelude.{◌≡◌, ◌<◌, ◌+◌, ◌⊎◌, ℕ, List, [], ◌∷◌, map, length, Some, None}
 use Rattle.md_words.specs.declared.shape.Shape.{Shape}
 use Rattle.md_words.specs.Place.{queue_head, queue_tail, node_next}
 use Rattle.md_words.specs.Layout.{address, IsNode}
@@ -59,28 +59,28 @@ pub record Enqueues (shape : Shape) (queue value : ℕ) (c : Certificate) : Type
   pub nodes : c.nodes ≡ new_node queue node (rank + 1) value ∷ []
   pub facts : c.facts ≡ has_key queue last rank ∷ []
 
--- Dequeue with a value: the next word of the head's node is recorded, and the head is changed to the node that it
--- names, whose value is the reply.
+-- Dequeue with a value: the head is changed to the node that its node names for good, whose value is the reply. Nothing
+-- is recorded: a next word that isn't 0 never changes.
 pub record Dequeues (shape : Shape) (queue : ℕ) (c : Certificate) : Type 0 where
   pub dummy : ℕ
   pub first : ℕ
   pub value : ℕ
   pub reply : c.reply ≡ Value (Some value)
-  pub recorded : c.recorded ≡ next_is shape dummy (link first) ∷ []
+  pub recorded : c.recorded ≡ []
   pub changes : c.changes ≡ head_change shape queue (link dummy) (link first) ∷ []
   pub nodes : c.nodes ≡ []
-  pub facts : c.facts ≡ has_value queue first value ∷ []
+  pub facts : c.facts ≡ has_next queue dummy (link first) ∷ has_value queue first value ∷ []
 
--- Front with a value: the head and the next word of its node are recorded, and nothing is changed.
+-- Front with a value: the head is recorded, whose node names another one for good. Nothing is changed.
 pub record FindsFirst (shape : Shape) (queue : ℕ) (c : Certificate) : Type 0 where
   pub dummy : ℕ
   pub first : ℕ
   pub value : ℕ
   pub reply : c.reply ≡ Value (Some value)
-  pub recorded : c.recorded ≡ head_is shape queue (link dummy) ∷ next_is shape dummy (link first) ∷ []
+  pub recorded : c.recorded ≡ head_is shape queue (link dummy) ∷ []
   pub changes : c.changes ≡ []
   pub nodes : c.nodes ≡ []
-  pub facts : c.facts ≡ has_value queue first value ∷ []
+  pub facts : c.facts ≡ has_next queue dummy (link first) ∷ has_value queue first value ∷ []
 
 -- Dequeue and Front without a value: the head and the next word of its node, which is 0, are recorded.
 pub record FindsNone (shape : Shape) (queue : ℕ) (c : Certificate) : Type 0 where
@@ -96,17 +96,18 @@ pub record Seen : Type 0 where
   pub node : ℕ
   pub value : ℕ
 
--- the next words of a node and of the nodes seen after it, but for the last one's
-abbrev pub next_words : Shape → (node : ℕ) → List Seen → List WordValue
-next_words shape node [] = []
-next_words shape node (s ∷ seen) = next_is shape node (link s.node) ∷ next_words shape s.node seen
+-- what a look knows for good of the nodes that it came to, one after another from a node: each is the next one, and has
+-- its value
+abbrev pub facts_along : (queue node : ℕ) → List Seen → List Fact
+facts_along queue node [] = []
+facts_along queue node (s ∷ seen) = has_next queue node (link s.node) ∷ has_value queue s.node s.value ∷ facts_along queue s.node seen
 
 -- the last node seen
 abbrev pub last_seen : (node : ℕ) → List Seen → ℕ
 last_seen node [] = node
 last_seen node (s ∷ seen) = last_seen s.node seen
 
--- the look ends when it has seen as many values as were asked for, or at a next word that is 0, which is recorded too
+-- the look ends when it has seen as many values as were asked for, or at a next word that is 0, which is recorded
 pub record LooksEnough (n : ℕ) (seen : List Seen) (ending : List WordValue) : Type 0 where
   pub all : length seen ≡ n
   pub is : ending ≡ []
@@ -115,17 +116,18 @@ pub record LooksToEnd (shape : Shape) (dummy n : ℕ) (seen : List Seen) (ending
   pub fewer : length seen < n
   pub is : ending ≡ next_is shape (last_seen dummy seen) 0 ∷ []
 
--- Line: the head is recorded, and in turn the next words of its node and of the nodes that these name.
+-- Line: the head is recorded. From its node the look goes along next words that never change, and records a last one,
+-- which is 0, if it comes to the end.
 pub record LooksAlong (shape : Shape) (queue n : ℕ) (c : Certificate) : Type 0 where
   pub dummy : ℕ
   pub seen : List Seen
   pub ending : List WordValue
   pub ends : LooksEnough n seen ending ⊎ LooksToEnd shape dummy n seen ending
   pub reply : c.reply ≡ TheLine (line_of (map (λ s. s.value) seen))
-  pub recorded : c.recorded ≡ head_is shape queue (link dummy) ∷ (next_words shape dummy seen ++ ending)
+  pub recorded : c.recorded ≡ head_is shape queue (link dummy) ∷ ending
   pub changes : c.changes ≡ []
   pub nodes : c.nodes ≡ []
-  pub facts : c.facts ≡ map (λ s. has_value queue s.node s.value) seen
+  pub facts : c.facts ≡ facts_along queue dummy seen
 
 -- the certificates of one queue's operations; other operations have none
 abbrev pub CertifiesOp : Shape → Op → Certificate → Type 0

@@ -1,11 +1,10 @@
 -- What a theory that contains queues tells of their nodes and words, in every valid heap.
 use Rattle.std.specs.Prelude.{◌≡◌, ◌≢◌, ◌<◌, ◌≤◌, ◌++◌, ℕ, suc, List, [], ◌∷◌}
-use Rattle.md_words.specs.declared.shape.Shape.{Shape}
 use Rattle.md_words.specs.Layout.{IsNode, node_count}
 use Rattle.md_machine.specs.LogicalHeap.{LogicalHeap, next_of}
 use Rattle.md_machine.specs.Meaning.{Meaning}
 use Rattle.md_queue_law.specs.QueueShape.{link, head_of, tail_of, IsOf, NamesOneOf}
-use Rattle.md_queue_law.specs.QueueCertificates.{Seen, next_is, next_words, last_seen}
+use Rattle.md_queue_law.specs.QueueCertificates.{Seen, facts_along, has_next, has_value, last_seen}
 
 -- a queue of a valid heap
 pub record IsQueueIn (M : Meaning) (h : LogicalHeap) (queue : ℕ) : Type 0 where
@@ -40,8 +39,9 @@ module _ (M : Meaning) where
   RanksFit = (h : LogicalHeap) (queue node : ℕ) → IsQueueIn M h queue → IsOf h queue node
       → IsNode h.words.shape node × (h.words.key_of node < node_count h.words.shape)
 
--- A look along a queue goes on: when it comes to one more node, the next word of the last one seen is recorded.
+-- A look along a queue goes on: when it comes to one more node, it is known to be the next one of the last one seen, and
+-- has its value.
 abbrev pub LookGoesOn : Type 0
-LookGoesOn = (shape : Shape) (node : ℕ) (seen : List Seen) (s : Seen)
-    → (next_words shape node (seen ++ s ∷ []) ≡ next_words shape node seen ++ next_is shape (last_seen node seen) (link s.node) ∷ [])
+LookGoesOn = (queue node : ℕ) (seen : List Seen) (s : Seen)
+    → (facts_along queue node (seen ++ s ∷ []) ≡ facts_along queue node seen ++ has_next queue (last_seen node seen) (link s.node) ∷ has_value queue s.node s.value ∷ [])
     × (last_seen node (seen ++ s ∷ []) ≡ s.node)

@@ -83,12 +83,21 @@ moves_tail = record {
 abbrev pub moved : LogicalHeap
 moved = after_tidy two_values moves_tail
 
--- node 2 has the value 9, and node 3 has 8
+-- node 2 has the value 9 and comes after node 1, and node 3 has 8 and comes after node 2
 abbrev pub has_9 : Fact
 has_9 = record { node = 2; structure = Queue 0; key = None; value = Some 9; next = None }
 
 abbrev pub has_8 : Fact
 has_8 = record { node = 3; structure = Queue 0; key = None; value = Some 8; next = None }
+
+abbrev pub goes_to_2 : Fact
+goes_to_2 = record { node = 1; structure = Queue 0; key = None; value = None; next = Some 4 }
+
+abbrev pub goes_to_3 : Fact
+goes_to_3 = record { node = 2; structure = Queue 0; key = None; value = None; next = Some 6 }
+
+abbrev pub both_along : List Fact
+both_along = goes_to_2 ∷ has_9 ∷ goes_to_3 ∷ has_8 ∷ []
 
 -- a line of two finds them
 abbrev pub looks_at_2 : Certificate
@@ -96,10 +105,10 @@ looks_at_2 = record {
   op = Line 0 2;
   reply = TheLine (record { count = 2; values = 9 ∷ 8 ∷ replicate 10 0 });
   tidy = [];
-  recorded = record { word = 65; value = 2 } ∷ record { word = 69; value = 4 } ∷ record { word = 72; value = 6 } ∷ [];
+  recorded = record { word = 65; value = 2 } ∷ [];
   changes = [];
   nodes = [];
-  facts = has_9 ∷ has_8 ∷ [];
+  facts = both_along;
 }
 
 -- a line of three finds them too, and that the next word of node 3, word 75, is 0
@@ -108,10 +117,10 @@ looks_at_3 = record {
   op = Line 0 3;
   reply = TheLine (record { count = 2; values = 9 ∷ 8 ∷ replicate 10 0 });
   tidy = [];
-  recorded = record { word = 65; value = 2 } ∷ record { word = 69; value = 4 } ∷ record { word = 72; value = 6 } ∷ record { word = 75; value = 0 } ∷ [];
+  recorded = record { word = 65; value = 2 } ∷ record { word = 75; value = 0 } ∷ [];
   changes = [];
   nodes = [];
-  facts = has_9 ∷ has_8 ∷ [];
+  facts = both_along;
 }
 
 -- 9 is dequeued
@@ -120,10 +129,10 @@ dequeues_9 = record {
   op = Dequeue 0;
   reply = Value (Some 9);
   tidy = [];
-  recorded = record { word = 69; value = 4 } ∷ [];
+  recorded = [];
   changes = record { word = 65; old = 2; new = 4 } ∷ [];
   nodes = [];
-  facts = has_9 ∷ [];
+  facts = goes_to_2 ∷ has_9 ∷ [];
 }
 
 abbrev pub one_left : LogicalHeap
@@ -135,10 +144,10 @@ finds_8 = record {
   op = Front 0;
   reply = Value (Some 8);
   tidy = [];
-  recorded = record { word = 65; value = 4 } ∷ record { word = 72; value = 6 } ∷ [];
+  recorded = record { word = 65; value = 4 } ∷ [];
   changes = [];
   nodes = [];
-  facts = has_8 ∷ [];
+  facts = goes_to_3 ∷ has_8 ∷ [];
 }
 
 abbrev pub dequeues_8 : Certificate
@@ -146,10 +155,10 @@ dequeues_8 = record {
   op = Dequeue 0;
   reply = Value (Some 8);
   tidy = [];
-  recorded = record { word = 72; value = 6 } ∷ [];
+  recorded = [];
   changes = record { word = 65; old = 4; new = 6 } ∷ [];
   nodes = [];
-  facts = has_8 ∷ [];
+  facts = goes_to_3 ∷ has_8 ∷ [];
 }
 
 abbrev pub none_left : LogicalHeap

@@ -28,7 +28,7 @@ use Rattle.md_rounds.proofs.Names.{names_in, apart-step, few-step, may-take}
 use Rattle.md_rounds.proofs.Folding.{AreNamedBy}
 use Rattle.md_rounds.proofs.TradingDay.{are-a-day}
 use Rattle.md_rounds.proofs.Pigeons.{inside, tag-parts, tags-few}
-use Rattle.md_rounds.proofs.Room.{book-room}
+use Rattle.md_book.proofs.books.Room.{book-room}
 
 if_some : {A : Type 0} (o : Option A) (x : A) (P : A → Type 0) → o ≡ Some x → IfSome o P → P x
 if_some o x P is h = subst (λ t. IfSome t P) is h

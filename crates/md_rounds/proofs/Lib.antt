@@ -3,9 +3,7 @@ pub mod Folding
 mod TradingDay
 mod Suiting
 mod Keeping
-pub mod Few
 pub mod Pigeons
-pub mod Room
 pub mod BookLaws
 mod Holding
 mod Listing

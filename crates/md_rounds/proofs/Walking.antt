@@ -1,5 +1,5 @@
 -- What the lines of all callers come to, in the order of the history.
-use Rattle.std.proofs.Common.{◌≡◌, ◌≤◌, ℕ, Option, List, [], ◌∷◌, length, refl, sym, ap, subst, ◌∙◌, arith}
+use Rattle.std.proofs.Common.{◌≡◌, ◌≤◌, ◌+◌, ℕ, zero, suc, Option, List, [], ◌∷◌, length, refl, sym, ap, subst, ◌∙◌, arith}
 use Rattle.std.specs.List.{cons_option}
 use Rattle.std.proofs.lemmas.List.{length-map}
 use Rattle.md_history.specs.declared.entries.Entry.{Entry}
@@ -12,8 +12,10 @@ use Rattle.md_book.specs.Book.{Book, empty_book, book_after}
 use Rattle.md_book.specs.Stands.{StandsFor}
 use Rattle.md_book.specs.Meets.{CommandsMeetTheBook}
 use Rattle.md_orders.specs.Records.{max_records}
-use Rattle.md_orders.specs.Scripts.{count_of, AreNamed}
+use Rattle.md_orders.specs.Scripts.{count_of, list_of, AreNamed}
 use Rattle.md_report_replies.specs.Replies.{reply_at}
+use Rattle.md_many_attempts.specs.ByCaller.{at_caller, lines_of}
+use Rattle.md_many_attempts.proofs.Lists.{count-lists}
 use Rattle.md_many.specs.Tags.{IsInterleaving}
 use Rattle.md_many.specs.Played.{committed_of, tags_of, EachLineOnce}
 use Rattle.md_many.specs.Replied.{IsReplied, AreReplied}
@@ -57,6 +59,18 @@ module _ (scripts : List (List Command)) (replies : List (List (Option BookReply
         replied = (first.kept, later.replied);
       }
 
+-- the lines of all callers are as many as scripts have commands
+count-lines : (scripts : List (List Command)) → lines_of (line_count_of scripts) (length scripts) ≡ count_of scripts
+count-lines scripts = lines-same (length scripts) ∙ count-lists scripts
+  where
+    same-list : (caller : ℕ) → list_of scripts caller ≡ at_caller [] scripts caller
+    same-list zero = refl
+    same-list (suc c) = refl
+
+    lines-same : (n : ℕ) → lines_of (line_count_of scripts) n ≡ lines_of (λ caller. length (at_caller [] scripts caller)) n
+    lines-same zero = refl
+    lines-same (suc n) = omega (arith, lines-same n, ap length (same-list (suc n)))
+
 -- the lines of all callers, each once, are played with the replies of the book
 pub all-played : (scripts : List (List Command)) → AreNamed scripts → count_of scripts ≤ max_records
     → CommandsMeetTheBook → StandsFor no_orders empty_book
@@ -65,8 +79,9 @@ pub all-played : (scripts : List (List Command)) → AreNamed scripts → count_
     → (fronts : List Front) (contents : State)
     → EachLineOnce (order_meaning scripts) keeps (HasTraded scripts) no_orders fronts contents
     → IsInterleaving (line_count_of scripts) (tags_of (committed_of fronts))
+    → length fronts ≤ lines_of (line_count_of scripts) (length scripts) + 1
     → (book : Book) × StandsFor contents book × IsPlayed scripts fronts replies book
-all-played scripts named few law none replies keeps has fronts contents once interleaving =
+all-played scripts named few law none replies keeps has fronts contents once interleaving fronts_few =
     let es = committed_of fronts in
     let tags = tags_of es in
     let cs = commands_of scripts tags in
@@ -85,6 +100,7 @@ all-played scripts named few law none replies keeps has fronts contents once int
       subst (λ ds. StandsFor contents (book_after empty_book ds)) same traded.stands,
       record {
         legal = once.legal;
+        few = omega (arith, fronts_few, count-lines scripts);
         each_once = interleaving;
         commands = cs;
         named = refl;

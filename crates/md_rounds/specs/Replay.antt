@@ -1,6 +1,6 @@
 -- That replies and book are those of one thread which runs the committed commands in the order in which they became
 -- ready.
-use Rattle.std.specs.Prelude.{◌≡◌, ℕ, ◌/◌, ◌%◌, ◌^◌, Option, Some, List, [], ◌∷◌}
+use Rattle.std.specs.Prelude.{◌≡◌, ◌≤◌, ◌+◌, ℕ, ◌/◌, ◌%◌, ◌^◌, Option, Some, List, [], ◌∷◌, length}
 use Rattle.std.specs.List.{filter_map}
 use Rattle.md_history.specs.declared.entries.Entry.{Entry}
 use Rattle.md_history.specs.State.{State, empty_state}
@@ -12,7 +12,7 @@ use Rattle.md_book.specs.Book.{Book, empty_book, book_after, replies_to}
 use Rattle.md_book.specs.declared.maps.TheConstants.{MAPS, LEVELS}
 use Rattle.md_book.specs.Commands.{script_of}
 use Rattle.md_book.specs.Trading.{IsDay}
-use Rattle.md_orders.specs.Scripts.{at_line}
+use Rattle.md_orders.specs.Scripts.{at_line, count_of}
 use Rattle.md_report_replies.specs.Replies.{reply_at}
 use Rattle.md_many.specs.Tags.{IsInterleaving}
 pub use Rattle.md_many.specs.Played.{committed_of, AreDecidedAndLegal, tags_of}
@@ -42,10 +42,11 @@ RepliedEach replies _ _ = ⊥
 -- The committed entries of the fronts, in their order: they are the lines of the scripts, each once, each caller's in
 -- order; their commands are a day of trading; each did its command with the reply that the book gives, where the
 -- commands are folded over the empty book in that order; these are the replies and that is the book; and the fronts are
--- legal from the state without orders.
+-- legal from the state without orders, at most one more than there are lines.
 pub record IsPlayed (scripts : List (List Command)) (fronts : List Front)
     (replies : List (List (Option BookReply))) (book : Book) : Type 0 where
   pub legal : AreDecidedAndLegal no_orders fronts
+  pub few : length fronts ≤ count_of scripts + 1
   pub each_once : IsInterleaving (line_count_of scripts) (tags_of (committed_of fronts))
   pub commands : List Command
   pub named : commands ≡ commands_of scripts (tags_of (committed_of fronts))

@@ -1,5 +1,5 @@
 -- What an operation of a list or a queue tells of its certificate, in the words by which acts are counted.
-use Rattle.std.proofs.Common.{◌≡◌, ◌==◌, ◌++◌, ◌⊎◌, ◌∙◌, ℕ, true, List, [], ◌∷◌, map, sym, ap, subst, ⊎_elim, eqb-true}
+use Rattle.std.proofs.Common.{◌≡◌, ◌==◌, ◌++◌, ◌⊎◌, ◌∙◌, ℕ, true, false, if◌then◌else◌, List, [], ◌∷◌, map, sym, ap, subst, ⊎_elim, eqb-true}
 use Rattle.std.specs.List.{Contains, list_any}
 use Rattle.std.proofs.lemmas.List.{append-nil, map-append}
 use Rattle.std.proofs.lemmas.List.Concat.{flat_map-append}
@@ -24,7 +24,7 @@ use Rattle.md_list.specs.Charged as list
 use Rattle.md_queue.specs.Charged as queue
 use Rattle.md_rule.specs.Views.{FieldView}
 use Rattle.md_store_law.specs.Store.{store}
-use Rattle.md_store_counts.specs.Few.{AllCharged, IsCharged, RecordsOne, TidyCharged, again, passes, placed, placed_nexts, recorded, recorded_by, recorded_words, words_of_changes}
+use Rattle.md_store_counts.specs.Few.{AllCharged, IsCharged, NextCharged, RecordsOne, TidyCharged, again, is_of_map, passes, placed, placed_nexts, read_before, recorded, recorded_by, recorded_words, words_of_changes}
 use Rattle.md_store_counts.proofs.Appending.{charged_more}
 use Rattle.md_store_bodies.specs.Counted.{HasCountedCertificates}
 
@@ -42,28 +42,32 @@ node_placed shape cs nodes same n among =
     subst (λ node. Contains (placed_nexts shape cs) (next_word shape node)) x.2 (map_in (λ (x : NewNode). next_word shape x.node) (all_nodes cs) x.0 x.1)
 
 -- what certificates record of a transaction's reads, and place of its nodes, charges its tidy changes
-module _ (u : TxnState) (cs : List Certificate) (reads : (r : Read) → Contains u.reads r → Contains (recorded_words cs) r.word)
-    (nodes : (n : OwnNode) → Contains u.nodes n → Contains (placed_nexts (shape_in u) cs) (next_word (shape_in u) n.node)) where
-  list_one : (earlier : List Change) (c : TidyChange) → list.IsCharged u earlier c → IsCharged (shape_in u) cs earlier c
+module _ (u : TxnState) (read nexts : List ℕ) (reads : (r : Read) → Contains u.reads r → Contains read r.word)
+    (nodes : (n : OwnNode) → Contains u.nodes n → Contains nexts (next_word (shape_in u) n.node)) where
+  list_one : (earlier : List Change) (c : TidyChange) → list.IsCharged u earlier c → IsCharged (shape_in u) read nexts earlier c
   list_one earlier c (list.changed is) = again (any_named earlier c.change.word is)
-  list_one earlier c (list.recorded r among is) = recorded (subst (Contains (recorded_words cs)) is (reads r among))
-  list_one earlier c (list.own_next n among is) = placed (subst (Contains (placed_nexts (shape_in u) cs)) (sym is) (nodes n among))
+  list_one earlier c (list.recorded r among is) = recorded (subst (Contains read) is (reads r among))
+  list_one earlier c (list.own_next n among is) = placed (subst (Contains nexts) (sym is) (nodes n among))
   list_one earlier c (list.passes is) = passes (any_named earlier (next_word (shape_in u) (linked_node c.change.old)) is)
 
-  pub list_charged : (earlier : List Change) (ts : List TidyChange) → list.AreCharged u earlier ts → TidyCharged (shape_in u) cs earlier ts
+  pub list_charged : (earlier : List Change) (ts : List TidyChange) → list.AreCharged u earlier ts → TidyCharged (shape_in u) read nexts earlier ts
   list_charged earlier [] all = tt
   list_charged earlier (c ∷ ts) all = (list_one earlier c all.0, list_charged (earlier ++ c.change ∷ []) ts all.1)
 
 -- of queues the nodes don't count
-module _ (u : TxnState) (cs : List Certificate) (reads : (r : Read) → Contains u.reads r → Contains (recorded_words cs) r.word) where
-  queue_one : (earlier : List Change) (c : TidyChange) → queue.IsCharged u earlier c → IsCharged (shape_in u) cs earlier c
+module _ (u : TxnState) (read nexts : List ℕ) (reads : (r : Read) → Contains u.reads r → Contains read r.word) where
+  queue_one : (earlier : List Change) (c : TidyChange) → queue.IsCharged u earlier c → IsCharged (shape_in u) read nexts earlier c
   queue_one earlier c (queue.changed is) = again (any_named earlier c.change.word is)
-  queue_one earlier c (queue.recorded r among is) = recorded (subst (Contains (recorded_words cs)) is (reads r among))
+  queue_one earlier c (queue.recorded r among is) = recorded (subst (Contains read) is (reads r among))
   queue_one earlier c (queue.passes is) = passes (any_named earlier (next_word (shape_in u) (linked_node c.change.old)) is)
 
-  pub queue_charged : (earlier : List Change) (ts : List TidyChange) → queue.AreCharged u earlier ts → TidyCharged (shape_in u) cs earlier ts
+  pub queue_charged : (earlier : List Change) (ts : List TidyChange) → queue.AreCharged u earlier ts → TidyCharged (shape_in u) read nexts earlier ts
   queue_charged earlier [] all = tt
   queue_charged earlier (c ∷ ts) all = (queue_one earlier c all.0, queue_charged (earlier ++ c.change ∷ []) ts all.1)
+
+-- what was recorded before a certificate
+pub reads_before : (t : TxnState) (cs : List Certificate) → HasCountedCertificates t cs → (c : Certificate) → (r : Read) → Contains t.reads r → Contains (read_before cs c) r.word
+reads_before t cs counted c r is = Contains-append_left (recorded_words cs) (if is_of_map c.op then [] else recorded_by c) r.word (counted.reads r is)
 
 -- one more certificate records what was recorded since, and places the nodes that were taken since
 module _ (t u : TxnState) (cs : List Certificate) (counted : HasCountedCertificates t cs) (c : Certificate)
@@ -75,6 +79,14 @@ module _ (t u : TxnState) (cs : List Certificate) (counted : HasCountedCertifica
       (λ new. Contains-append_right (recorded_words cs) (recorded_words (c ∷ [])) r.word
       (subst (λ l. Contains l r.word) (sym (append-nil (recorded_by c))) new))
       (among r is))
+
+  -- what one of a queue records may charge its own moves of the tail
+  pub queue_reads : is_of_map c.op ≡ false → (r : Read) → Contains u.reads r → Contains (read_before cs c) r.word
+  queue_reads other r is = ⊎_elim
+      (reads_before t cs counted c r)
+      (λ new. Contains-append_right (recorded_words cs) (if is_of_map c.op then [] else recorded_by c) r.word
+      (subst (λ b. Contains (if b then [] else recorded_by c) r.word) (sym other) new))
+      (among r is)
 
   module _ (going : IsGoing store u cs) (order : map (λ (n : NewNode). n.node) (whole_nodes c) ≡ u.hand.stored) where
     nodes_are : map (λ (n : OwnNode). n.node) u.nodes ≡ map (λ (n : NewNode). n.node) (all_nodes (cs ++ c ∷ []))
@@ -90,7 +102,7 @@ module _ (t u : TxnState) (cs : List Certificate) (counted : HasCountedCertifica
 
   -- so all are counted once the operation has ended
   pub counted_more : (v : TxnState) → IsGoing store v (cs ++ c ∷ []) → v.reads ≡ u.reads → shape_in v ≡ shape_in t → RecordsOne c
-      → TidyCharged (shape_in t) (cs ++ c ∷ []) (all_changes cs) c.tidy → HasCountedCertificates v (cs ++ c ∷ [])
+      → NextCharged (shape_in t) cs c → HasCountedCertificates v (cs ++ c ∷ [])
   counted_more v going reads shape few charged = record {
     going = going;
     few = all_push RecordsOne cs c counted.few few;

@@ -6,7 +6,7 @@ use Rattle.std.proofs.lemmas.List.{length-append, length-map, length-take, map-a
 use Rattle.md_words.specs.declared.limits.TheConstants.{SET}
 use Rattle.md_history.specs.declared.acts.Act.{Act}
 use Rattle.md_history.specs.declared.acts.Op.{Op}
-use Rattle.md_history.specs.declared.acts.Op.TheVariants.{Dequeue, Enqueue, Front, Get, Insert, Line, Remove}
+use Rattle.md_history.specs.declared.acts.Op.TheVariants.{Dequeue, Enqueue, Front, Get, Insert, Line, Put, Remove}
 use Rattle.md_history.specs.Act.{act_of}
 use Rattle.md_history.specs.Calls.{MayReply}
 use Rattle.md_history.specs.Counts.{nodes, reads, writes}
@@ -28,6 +28,7 @@ answer_may : (s : State) (op : Op) → MayReply op (answer s op)
 answer_may s (Get m k) = tt
 answer_may s (Insert m k v) = tt
 answer_may s (Remove m k) = tt
+answer_may s (Put m k v) = tt
 answer_may s (Enqueue q v) = tt
 answer_may s (Dequeue q) = tt
 answer_may s (Front q) = tt

@@ -46,13 +46,13 @@ use Rattle.md_rule.specs.Views.{FieldView, PassState}
 use Rattle.md_list.specs.Refusals.{HasSeen, IsAbsent, IsRefused, NeedsNode, NeedsRead, NeedsSlot, NeedsUnlink, OneMoreChange, OneMoreRead, OneMoreUnlink, WouldStand}
 use Rattle.md_list.specs.Walking.{IsHeadOf}
 use Rattle.md_store_law.specs.Store.{store}
-use Rattle.md_store_counts.specs.Few.{AllCharged, RecordsOne, StandFrom, TidyCharged, certificate_acts, recorded_by, recorded_words, words_of_changes}
+use Rattle.md_store_counts.specs.Few.{AllCharged, RecordsOne, StandFrom, TidyCharged, certificate_acts, placed_nexts, read_before, recorded_by, recorded_words, words_of_changes}
 use Rattle.md_store_counts.proofs.Appending.{charged_more}
 use Rattle.md_store_counts.proofs.Placing.{placed_are_counted}
 use Rattle.md_store_counts.proofs.Writing.{tidied_are_few}
 use Rattle.md_store_bodies.specs.Counted.{Exceeds, IsCountLimit, HasCountedCertificates}
 use Rattle.md_store_bodies.specs.Store.{IsFresh, IsPassOf, start_of}
-use Rattle.md_store_bodies.proofs.Charging.{counted_later, list_charged, node_placed, nodes_more, reads_more}
+use Rattle.md_store_bodies.proofs.Charging.{counted_later, list_charged, node_placed, nodes_more, reads_before, reads_more}
 use Rattle.md_store_bodies.proofs.Exceeding.{changed_exceed, more_nodes, more_writes_before, one_more_word, recorded_exceed, replies}
 use Rattle.md_store_bodies.proofs.TakenNodes.{taken_enough}
 use Rattle.md_store_bodies.proofs.WrittenWords.{all_named, with_word, words_differ}
@@ -126,7 +126,8 @@ module _ (f : FieldView) (p : PassState) (of : IsPassOf f p) (fresh : IsFresh p)
       append_assoc (all_changes cs) t.hand.changes (n.change ∷ []) ∙ ap (λ l. all_changes cs ++ l) (sym n.changes ∙ sym (append-nil (whole_changes c)))
       ∙ sym (flat_map-append whole_changes cs (c ∷ [])) in
       let charged = charged_more (shape_in t) [] cs c counted.charged
-      (list_charged t (cs ++ c ∷ []) (reads_more t t cs counted c (λ r among. inl among)) (nodes_more t t cs counted c (λ r among. inl among) counted.going n.nodes)
+      (list_charged t (read_before cs c) (placed_nexts (shape_in t) (cs ++ c ∷ [])) (reads_before t cs counted c)
+      (nodes_more t t cs counted c (λ r among. inl among) counted.going n.nodes)
       (all_changes cs) c.tidy w.charged) in
       subst (Exceeds f (certificate_acts cs)) w.of.0
       (changed_exceed f cs c (right_next c stand) before_right H stand (all_push RecordsOne cs c counted.few (λ _. w.few))
@@ -153,7 +154,8 @@ module _ (f : FieldView) (p : PassState) (of : IsPassOf f p) (fresh : IsFresh p)
             (known_of f p of fresh tag start t begins later field cs counted.going
             (λ u h. HasSeen u h n.unlink.change.word n.seen → TidiesStandBy (after_wholes (found_by u h) cs) (after_wholes h cs) ts) n.stand
             (heap_seen f p of fresh tag start t begins later field cs counted.going n.unlink.change.word n.seen n.gave));
-        charged = subst (λ s. TidyCharged s cs (all_changes cs) ts) (sym shape) (list_charged t cs counted.reads (node_placed (shape_in t) cs t.nodes order) (all_changes cs) ts n.charged);
+        charged = subst (λ s. TidyCharged s (recorded_words cs) (placed_nexts s cs) (all_changes cs) ts) (sym shape)
+            (list_charged t (recorded_words cs) (placed_nexts (shape_in t) cs) counted.reads (node_placed (shape_in t) cs t.nodes order) (all_changes cs) ts n.charged);
       })
       (with_word t cs counted.going n.unlink.change.word) words.0
       (subst (λ l. All (Contains (words_of_changes l)) (with_word t cs counted.going n.unlink.change.word)) changes (all_named t cs counted.going n.unlink.change.word (n.unlink.change ∷ []) (only n.unlink.change.word))) in

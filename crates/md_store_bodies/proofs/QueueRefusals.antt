@@ -9,7 +9,7 @@ use Rattle.std.proofs.lemmas.List.Elements.{All-append, All-cons, All-nil, Conta
 use Rattle.std.proofs.lemmas.List.Sums.{sum_by-append, sum_by-cons}
 use Rattle.md_history.specs.declared.acts.Act.{Act}
 use Rattle.md_history.specs.declared.acts.Op.{Op}
-use Rattle.md_history.specs.declared.acts.Op.TheVariants.{Dequeue, Front, Line}
+use Rattle.md_history.specs.declared.acts.Op.TheVariants.{Line}
 use Rattle.md_history.specs.declared.acts.Reply.{Reply}
 use Rattle.md_history.specs.declared.stops.Limit.TheVariants.{Nodes, Reads, Writes}
 use Rattle.md_history.specs.declared.stops.Stop.{Stop}
@@ -17,7 +17,7 @@ use Rattle.md_history.specs.declared.stops.Stop.TheVariants.{Limit as Limited}
 use Rattle.md_history.specs.Act.{act_of}
 use Rattle.md_history.specs.Counts.{added, asked_queue, changed_nothing, dequeued, different, line_words, nodes, reads}
 use Rattle.md_history.specs.CountLaws.{count-append, nodes-append}
-use Rattle.md_history.specs.State.{IsRight, answer, run}
+use Rattle.md_history.specs.State.{IsRight, State, answer, run}
 use Rattle.md_machine.specs.declared.attempt.Read.{Read}
 use Rattle.md_machine.specs.declared.certificate.Certificate.{Certificate}
 use Rattle.md_machine.specs.declared.certificate.TidyChange.{TidyChange}
@@ -36,22 +36,22 @@ use Rattle.md_nbtc_law.proofs.ready.Standing.{pairs_map}
 use Rattle.md_rule.specs.Views.{FieldView, PassState}
 use Rattle.md_queue.specs.Refusals.{BeganAlone, ChangeRefused, MoveRefused, ReadRefused, WouldStand}
 use Rattle.md_store_law.specs.Store.{store}
-use Rattle.md_store_counts.specs.Few.{AllCharged, RecordsOne, StandFrom, TidyCharged, certificate_acts, is_of_map, recorded_by, recorded_words, words_of_changes}
+use Rattle.md_store_counts.specs.Few.{AllCharged, RecordsOne, StandFrom, TidyCharged, certificate_acts, is_of_map, placed_nexts, read_before, recorded_by, recorded_words, words_of_changes}
 use Rattle.md_store_counts.proofs.Appending.{charged_more}
 use Rattle.md_store_counts.proofs.Fronts.{recorded_are_few}
 use Rattle.md_store_counts.proofs.Placing.{placed_are_counted}
 use Rattle.md_store_counts.proofs.Writing.{tidied_are_few}
 use Rattle.md_store_bodies.specs.Counted.{Exceeds, IsCountLimit, HasCountedCertificates}
 use Rattle.md_store_bodies.specs.Store.{IsFresh, IsPassOf, start_of}
-use Rattle.md_store_bodies.proofs.Charging.{counted_at, queue_charged, reads_more}
+use Rattle.md_store_bodies.proofs.Charging.{counted_at, queue_charged, queue_reads, reads_more}
 use Rattle.md_store_bodies.proofs.Exceeding.{asked_is, changed_exceed, more_nodes, more_reads, more_writes_before, one_more_word}
 use Rattle.md_store_bodies.proofs.FreshHeaps.{acts_right, fresh_heap, heap_shape, holds, is_heap, next_right, next_stands, stand_from, tidies_stand}
 use Rattle.md_store_bodies.proofs.ListRefusals.{many_nodes, nodes_then}
 use Rattle.md_store_bodies.proofs.WrittenWords.{all_named, with_word, words_differ}
 
--- an operation on a queue counts no more reads than another one, whatever both answer
+-- an operation on a queue counts no more reads than another one, each with its right reply
 abbrev pub AsksLess : (less more : Op) → Type 0
-AsksLess less more = (is_of_map less ≡ false) × ((acts : List Act) (r q : Reply) → reads (acts ++ act_of less r ∷ []) ≤ reads (acts ++ act_of more q ∷ []))
+AsksLess less more = (is_of_map less ≡ false) × ((acts : List Act) (s : State) → reads (acts ++ act_of less (answer s less) ∷ []) ≤ reads (acts ++ act_of more (answer s more) ∷ []))
 
 -- an operation that asks for no more values of the same queue does so
 module _ (acts : List Act) (a b : Act) (same : filter_map (λ (x : Act). asked_queue x.op x.reply) (a ∷ []) ≡ filter_map (λ (x : Act). asked_queue x.op x.reply) (b ∷ []))
@@ -69,17 +69,16 @@ module _ (acts : List Act) (a b : Act) (same : filter_map (λ (x : Act). asked_q
       let q = ap (different nat_eq) (filter_map-append asked acts (a ∷ []) ∙ ap (λ ys. filter_map asked acts ++ ys) same ∙ sym (filter_map-append asked acts (b ∷ []))) in
       omega (arith, n, n', d, d', l, l', q, nothing, none, fewer)
 
-pub front_by_dequeue : (queue : ℕ) (op : Op) → op ≡ Front queue → AsksLess op (Dequeue queue)
-front_by_dequeue queue op is = subst (λ o. AsksLess o (Dequeue queue)) (sym is)
-    (refl, λ acts r q. less_reads acts (act_of (Front queue) r) (act_of (Dequeue queue) q) refl refl refl (omega arith))
-
-pub front_by_front : (queue : ℕ) (op : Op) → op ≡ Front queue → AsksLess op (Front queue)
-front_by_front queue op is = subst (λ o. AsksLess o (Front queue)) (sym is)
-    (refl, λ acts r q. less_reads acts (act_of (Front queue) r) (act_of (Front queue) q) refl refl refl (omega arith))
+-- and so does the same operation
+pub asks_itself : (this op : Op) → is_of_map this ≡ false → op ≡ this → AsksLess op this
+asks_itself this op other is = (
+  ap is_of_map is ∙ other,
+  λ acts s. subst (λ o. reads (acts ++ act_of o (answer s o) ∷ []) ≤ reads (acts ++ act_of this (answer s this) ∷ [])) (sym is) (omega arith),
+)
 
 pub line_by_line : (queue m n : ℕ) (op : Op) → m ≤ n → op ≡ Line queue m → AsksLess op (Line queue n)
 line_by_line queue m n op few is = subst (λ o. AsksLess o (Line queue n)) (sym is)
-    (refl, λ acts r q. less_reads acts (act_of (Line queue m) r) (act_of (Line queue n) q) refl refl refl (omega (arith, few)))
+    (refl, λ acts s. less_reads acts (act_of (Line queue m) (answer s (Line queue m))) (act_of (Line queue n) (answer s (Line queue n))) refl refl refl (omega (arith, few)))
 
 -- why an operation of a queue was refused by a limit: the transaction goes on from s, where the operation was begun, to u
 pub record QueueLimits (s u : TxnState) (cs : List Certificate) (queue : ℕ) (op : Op) (Asks : Op → Type 0) (why : Stop) : Type 0 where
@@ -147,7 +146,7 @@ module _ (p : PassState) (s u : TxnState) (of : IsPassOf s.field p) (fresh : IsF
       let same = asked_is s.field cs c (next_right s.field p of fresh tag start v begins (over v was.going was.later) was.later.field cs was.going c stand) in
       let same_reads = ap reads same in
       let state = run (start_of s.field) (certificate_acts cs) in
-      let more = asks.1 (certificate_acts cs) (answer state c.op) (answer state op) in
+      let more = asks.1 (certificate_acts cs) state in
       let many = words.1 in
       let set = ap (λ (y : TxnState). length y.reads) (sym was.same) ∙ cause.reads is in
       more_reads s.field (certificate_acts cs) right op (omega (arith, least, same_reads, more, many, set))
@@ -169,7 +168,8 @@ module _ (p : PassState) (s u : TxnState) (of : IsPassOf s.field p) (fresh : IsF
         tidies = subst (λ k. All (store.tidies k) ts) (sym shape) (all_push (store.tidies (shape_in v)) m.earlier m.move m.tidied.tidies m.tidies);
         stand = tidies_stand s.field p of fresh tag start v begins (over v was.going was.later) was.later.field cs was.going ts
             (m.would (H v was.going was.later) (heap_of v was.going was.later));
-        charged = subst (λ k. TidyCharged k cs (all_changes cs) ts) (sym shape) (queue_charged v cs counted_v.reads (all_changes cs) ts m.charged);
+        charged = subst (λ k. TidyCharged k (recorded_words cs) (placed_nexts k cs) (all_changes cs) ts) (sym shape)
+            (queue_charged v (recorded_words cs) (placed_nexts (shape_in v) cs) counted_v.reads (all_changes cs) ts m.charged);
       })
       (with_word v cs was.going m.move.change.word) words.0
       (subst (λ l. All (Contains (words_of_changes l)) (with_word v cs was.going m.move.change.word))
@@ -190,7 +190,8 @@ module _ (p : PassState) (s u : TxnState) (of : IsPassOf s.field p) (fresh : IsF
       append_assoc (all_changes cs) v.hand.changes (n.last ∷ []) ∙ ap (λ l. all_changes cs ++ l) (sym n.changes ∙ sym (append-nil (whole_changes c)))
       ∙ sym (flat_map-append whole_changes cs (c ∷ [])) in
       let charged = charged_more (shape_in v) [] cs c (subst (λ k. AllCharged k [] cs) (sym (shape_is v was.going was.later)) counted.charged)
-      (queue_charged v (cs ++ c ∷ []) (reads_more s v cs counted c n.among) (all_changes cs) c.tidy w.charged) in
+      (queue_charged v (read_before cs c) (placed_nexts (shape_in v) (cs ++ c ∷ [])) (queue_reads s v cs counted c n.among (ap is_of_map n.op_is ∙ other))
+      (all_changes cs) c.tidy w.charged) in
       let many = words.1 in
       let set = ap (λ (y : TxnState). length y.slots) (sym was.same) ∙ cause.writes is in
       subst (Exceeds s.field (certificate_acts cs)) n.op_is

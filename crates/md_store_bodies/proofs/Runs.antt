@@ -3,6 +3,7 @@ use Rattle.std.specs.Prelude.{Result, ◌≡◌, ◌<◌, ◌⊎◌, ◌++◌, �
 use Rattle.std.proofs.Common.{refl, sym, ap, subst, ◌∙◌}
 use Rattle.std.proofs.lemmas.Bool.{false≢true}
 use Rattle.std.specs.List.{Contains}
+use Rattle.std.proofs.lemmas.List.Elements.{Contains-append_left}
 use Rattle.md_words.specs.declared.shape.Shape.{Shape}
 use Rattle.md_words.specs.Layout.{address, bucket_of}
 use Rattle.md_words.specs.Place.{bucket_head}
@@ -22,18 +23,19 @@ use Rattle.md_nbtc_law.specs.Going.{IsGoing, IsUnderWay}
 use Rattle.md_nbtc_law.specs.Known.{IsLater}
 use Rattle.md_nbtc_law.specs.State.{TxnState, own_node, shape_in, taken_since}
 use Rattle.md_nbtc_law.proofs.preparing.Later.{later_over}
+use Rattle.md_list_law.specs.ListShape.{next_word}
 use Rattle.md_list.specs.Operations.{Answers, OperationGoesOn}
 use Rattle.md_list.specs.Walking.{IsHeadOf}
 use Rattle.md_queue.specs.Operations.{OperationAnswered, IsBegun as IsBegunQueue, OperationRefused}
 use Rattle.md_rule.specs.Steps.{IsOf as IsOfAct}
 use Rattle.md_rule.specs.Views.{FieldView, PassState}
 use Rattle.md_store_law.specs.Store.{store}
-use Rattle.md_store_counts.specs.Few.{RecordsOne, TidyCharged, certificate_acts, is_of_map, recorded_by}
+use Rattle.md_store_counts.specs.Few.{NextCharged, RecordsOne, certificate_acts, is_of_map, placed_nexts, read_before, recorded_by}
 use Rattle.md_store_bodies.specs.declared.broken.Broken.{Broken}
 use Rattle.md_store_bodies.specs.Counted.{Exceeds, IsCountLimit, HasCountedCertificates}
 use Rattle.md_store_bodies.specs.Running.{IsRunning, RunsOn, refusal_of}
 use Rattle.md_store_bodies.specs.Store.{IsFresh, IsPassOf}
-use Rattle.md_store_bodies.proofs.Charging.{counted_later, counted_more, list_charged, nodes_more, queue_charged, reads_more}
+use Rattle.md_store_bodies.proofs.Charging.{counted_later, counted_more, list_charged, nodes_more, queue_charged, queue_reads, reads_before}
 use Rattle.md_store_bodies.proofs.ListRefusals.{ListLimits, list_exceeds}
 use Rattle.md_store_bodies.proofs.QueueRefusals.{QueueLimits, queue_exceeds}
 
@@ -66,7 +68,7 @@ pub record EndsBy (s u : TxnState) (cs : List Certificate) (op : Op) (reply : Re
   pub may : MayEnd store u cs certificate
   pub few : RecordsOne certificate
   pub recorded : (r : Read) → Contains u.reads r → Contains s.reads r ⊎ Contains (recorded_by certificate) r.word
-  pub charged : TidyCharged (shape_in u) (cs ++ certificate ∷ []) (all_changes cs) certificate.tidy
+  pub charged : NextCharged (shape_in s) cs certificate
 
 -- it was refused
 pub record IsRefusedSo (s u : TxnState) (cs : List Certificate) (why : Stop) : Type 0 where
@@ -146,8 +148,7 @@ module _ (before : PassState) (t s : TxnState) (b : Option Broken) (whole : b �
         (
           cs ++ c ∷ [],
           counted_more s u cs counted c by.recorded v going
-              (ap (λ (x : TxnState). x.reads) ends.is) (ap shape_in ends.is ∙ shape) by.few
-              (subst (λ k. TidyCharged k (cs ++ c ∷ []) (all_changes cs) c.tidy) shape by.charged),
+              (ap (λ (x : TxnState). x.reads) ends.is) (ap shape_in ends.is ∙ shape) by.few by.charged,
         ),
       ))
       (λ refusal some. absurd (some_none refusal (sym some))))
@@ -193,17 +194,22 @@ module _ (before : PassState) (t s : TxnState) (b : Option Broken) (whole : b �
         → u.stop ≡ None → EndsBy s u cs (op map) reply
     list_ends head key op reply answers map is_head stop =
         let a = answers map is_head cs counted.going in
-        let going = leaves.on.going cs counted.going in record {
+        let c = a.certificate in
+        let later = leaves.on.later in
+        let going = leaves.on.going cs counted.going in
+        let placed = nodes_more s u cs counted c a.recorded going a.may.order in record {
           going = going;
-          later = leaves.on.later;
+          later = later;
           stop = stop;
-          certificate = a.certificate;
+          certificate = c;
           of = a.of;
           may = a.may;
           few = λ _. a.few;
           recorded = a.recorded;
-          charged = list_charged u (cs ++ a.certificate ∷ []) (reads_more s u cs counted a.certificate a.recorded)
-              (nodes_more s u cs counted a.certificate a.recorded going a.may.order) (all_changes cs) a.certificate.tidy a.charged;
+          charged = list_charged s (read_before cs c) (placed_nexts (shape_in s) (cs ++ c ∷ [])) (reads_before s cs counted c)
+              (λ n i. subst (λ k. Contains (placed_nexts k (cs ++ c ∷ [])) (next_word k n.node)) (ap (λ (f : FieldView). f.origin.shape) later.field)
+              (placed n (subst (λ l. Contains l n) (sym later.nodes.is) (Contains-append_left s.nodes later.nodes.rest n i))))
+              (all_changes cs) c.tidy a.charged;
         }
 
     pub list_refused : (why : Stop) → u.stop ≡ Some why → IsRefusedSo s u cs why
@@ -234,7 +240,9 @@ module _ (before : PassState) (t s : TxnState) (b : Option Broken) (whole : b �
           may = by.may;
           few = λ of_map. absurd (false≢true (sym other ∙ ap is_of_map (sym by.of.0) ∙ of_map));
           recorded = by.recorded;
-          charged = queue_charged u (cs ++ c ∷ []) (reads_more s u cs counted c by.recorded) (all_changes cs) c.tidy by.charged;
+          charged = subst (λ k. NextCharged k cs c) (ap (λ (f : FieldView). f.origin.shape) a.goes.leaves.on.later.field)
+              (queue_charged u (read_before cs c) (placed_nexts (shape_in u) (cs ++ c ∷ []))
+              (queue_reads s u cs counted c by.recorded (ap is_of_map by.of.0 ∙ other)) (all_changes cs) c.tidy by.charged);
         }
 
     -- the nodes of u are those that were taken

@@ -8,8 +8,8 @@ ghost use Rattle.md_history.specs.Calls.{IsLineLength};
 ghost use Rattle.md_nbtc_law.specs.State.{shape_in};
 ghost use Rattle.md_nbtc.specs.State.{state};
 ghost use Rattle.md_queue.specs.Operations.{OperationAnswered, IsBegun, IsNotBy};
-ghost use Rattle.md_queue.specs.Operations.{RefusedOtherwise};
-ghost use Rattle.md_queue.specs.Refusals.{AsksFront, RefusesReads};
+ghost use Rattle.md_queue.specs.Operations.{RefusedOtherwise, front_reads};
+ghost use Rattle.md_queue.specs.Refusals.{AsksFor, RefusesReads};
 ghost use Rattle.md_store_law.specs.Store.{store};
 ghost use Rattle.md_store_bodies.specs.Running.{IsRunning, MakesCall, refusal_of};
 
@@ -88,10 +88,10 @@ fn look<'a>(txn: &mut Txn<'a, StoreTheory>, queue: u32) -> Result<Option<u64>, S
     requires begun { IsBegun store (state txn.old) queue }
     ensures pass { txn.new.pass.ghost_name ≡ txn.old.pass.ghost_name }
     ensures answer { IfOk result (λ value. OperationAnswered store (state txn.old) (state txn.new)
-        (Front queue) (Value value) 2 0 0) }
+        (Front queue) (Value value) (front_reads value) 0 0) }
     ensures stop { IfErr result (RefusedOtherwise store (state txn.old) (state txn.new) 2 0) }
     ensures reads { IfErr result (RefusesReads store (state txn.old) (state txn.new)
-        (AsksFront queue)) }
+        (AsksFor (Front queue))) }
     ensures no_writes { IfErr result (IsNotBy (state txn.old) Writes) }
 {
     front(txn, queue)

@@ -9,7 +9,7 @@ use Rattle.md_machine.specs.Certified.{AllStandBy, TidiesStandBy, after_tidies, 
 use Rattle.md_machine.specs.LogicalHeap.{LogicalHeap}
 use Rattle.md_machine.specs.Meaning.{Stands, StandsBy, after_tidy}
 use Rattle.md_machine.proofs.chain.Agree.{SameValues, same_tidies, same_tidy, same_whole}
-use Rattle.md_store_counts.specs.Few.{AllCharged, TidyCharged, recorded}
+use Rattle.md_store_counts.specs.Few.{AllCharged, NextCharged}
 
 pub tidies_by_itself : (own h : LogicalHeap) → SameValues own h → (ts : List TidyChange) → TidiesStandBy own h ts → TidiesStandBy h h ts
 tidies_by_itself own h same [] stand = tt
@@ -35,10 +35,9 @@ all_by_itself own h same (c ∷ cs) stand = (
 )
 
 pub charged_more : (shape : Shape) (before cs : List Certificate) (c : Certificate) → AllCharged shape before cs
-    → TidyCharged shape ((before ++ cs) ++ c ∷ []) (all_changes (before ++ cs)) c.tidy → AllCharged shape before (cs ++ c ∷ [])
-charged_more shape before [] c charged more = (subst (λ l. TidyCharged shape (l ++ c ∷ []) (all_changes l) c.tidy) (append-nil before) more, tt)
+    → NextCharged shape (before ++ cs) c → AllCharged shape before (cs ++ c ∷ [])
+charged_more shape before [] c charged more = (subst (λ l. NextCharged shape l c) (append-nil before) more, tt)
 charged_more shape before (d ∷ ds) c charged more = (
   charged.0,
-  charged_more shape (before ++ d ∷ []) ds c charged.1
-      (subst (λ l. TidyCharged shape (l ++ c ∷ []) (all_changes l) c.tidy) (sym (append_assoc before (d ∷ []) ds)) more),
+  charged_more shape (before ++ d ∷ []) ds c charged.1 (subst (λ l. NextCharged shape l c) (sym (append_assoc before (d ∷ []) ds)) more),
 )

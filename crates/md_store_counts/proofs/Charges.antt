@@ -1,5 +1,5 @@
--- To what a changed word is charged: to a new node, to a word that was recorded, to a changed queue, or to a key that was
--- changed. Of a queue three words are charged to it, and of a key two.
+-- To what a changed or recorded word is charged: to a new node, to a changed queue, to a key that was changed, or to one
+-- that was looked up. Of a queue three words are charged to it, of a changed key two, and of another one.
 use Rattle.std.proofs.Common.{◌≡◌, ◌⊎◌, ◌<◌, ◌≤◌, ◌∙◌, ℕ, false, List, sym, ap, inl, inr, ⊎_elim, arith}
 use Rattle.std.specs.List.{Contains}
 use Rattle.std.proofs.lemmas.Bool.{cases_eq, cases_lt}
@@ -45,14 +45,27 @@ pub record Leads (h : LogicalHeap) (map key word : ℕ) : Type 0 where
   pub before : NamesNone (h.words.value word)
       ⊎ (IsIn h (Bucket map (bucket_of h.words.shape key)) (linked_node (h.words.value word)) × (key ≤ h.words.key_of (linked_node (h.words.value word))))
 
-pub data IsCovered (h : LogicalHeap) (nexts notes : List ℕ) (Keys : ℕ → ℕ → Type 0) (Queues : ℕ → Type 0) (word : ℕ) : Type 0 where
-  own : Contains nexts word → IsCovered h nexts notes Keys Queues word
-  noted : Contains notes word → IsCovered h nexts notes Keys Queues word
-  at_head : (queue : ℕ) → Queues queue → word ≡ address h.words.shape (queue_head queue) → IsCovered h nexts notes Keys Queues word
-  at_tail : (queue : ℕ) → Queues queue → word ≡ address h.words.shape (queue_tail queue) → IsCovered h nexts notes Keys Queues word
-  at_last : (queue : ℕ) → Queues queue → IsLast h queue word → IsCovered h nexts notes Keys Queues word
-  at_key : (map key : ℕ) → Keys map key → HasKey h map key word → IsCovered h nexts notes Keys Queues word
-  at_place : (map key : ℕ) → Keys map key → Leads h map key word → IsCovered h nexts notes Keys Queues word
+-- no unmarked node has a key
+abbrev pub IsAbsent : (h : LogicalHeap) → (map key : ℕ) → Type 0
+IsAbsent h map key = (word : ℕ) → HasKey h map key word → ⊥
+
+-- what words are charged to: next words of new nodes, keys that operations named, those that they changed, and queues that
+-- they changed
+pub record Payers : Type 1 where
+  pub nexts : List ℕ
+  pub Named : ℕ → ℕ → Type 0
+  pub Keys : ℕ → ℕ → Type 0
+  pub Queues : ℕ → Type 0
+  pub named : (map key : ℕ) → Keys map key → Named map key
+
+pub data IsCovered (h : LogicalHeap) (by : Payers) (word : ℕ) : Type 0 where
+  own : Contains by.nexts word → IsCovered h by word
+  at_head : (queue : ℕ) → by.Queues queue → word ≡ address h.words.shape (queue_head queue) → IsCovered h by word
+  at_tail : (queue : ℕ) → by.Queues queue → word ≡ address h.words.shape (queue_tail queue) → IsCovered h by word
+  at_last : (queue : ℕ) → by.Queues queue → IsLast h queue word → IsCovered h by word
+  at_key : (map key : ℕ) → by.Named map key → HasKey h map key word → IsCovered h by word
+  at_absent : (map key : ℕ) → by.Named map key → Leads h map key word → IsAbsent h map key → IsCovered h by word
+  at_place : (map key : ℕ) → by.Keys map key → Leads h map key word → IsCovered h by word
 
 module _ (h : LogicalHeap) (valid : IsStore h) where
   -- a queue has one last node
@@ -75,7 +88,7 @@ module _ (h : LogicalHeap) (valid : IsStore h) where
     one_node : (a b : ℕ) → IsIn h list a → IsIn h list b → is_marked (h.words.value (next_word h.words.shape a)) ≡ false
         → is_marked (h.words.value (next_word h.words.shape b)) ≡ false → h.words.key_of a ≡ h.words.key_of b → a ≡ b
     one_node a b in_a in_b plain_a plain_b e = same_key h list (rises_of h list head is_list) (node_count h.words.shape) (h.words.value head) a b
-        is_list.first (is_list.reached a in_a plain_a) (is_list.reached b in_b plain_b) e
+        is_list.first (is_list.reached a in_a plain_a) (is_list.reached b in_b plain_b) plain_a plain_b e
 
     pub key_one : (word other : ℕ) → HasKey h map key word → HasKey h map key other → word ≡ other
     key_one word other a b = a.is

@@ -1,6 +1,8 @@
 -- Along certificates that stand one after another, each changed word is charged.
-use Rattle.std.proofs.Common.{◌≡◌, ◌≢◌, ◌⊎◌, ◌<◌, ◌≤◌, ◌++◌, ◌∙◌, ℕ, true, false, List, [], ◌∷◌, Some, None, refl, sym, ap, subst, inl, inr, ⊎_elim, arith}
+use Rattle.std.proofs.Common.{◌≡◌, ◌≢◌, ◌⊎◌, ◌<◌, ◌≤◌, ◌++◌, ◌∙◌, ℕ, true, false, List, [], ◌∷◌, Option, Some, None, refl, sym, ap, subst, inl, inr, ⊎_elim, arith}
 use Rattle.std.specs.List.{Contains}
+use Rattle.std.specs.Ordering.{nat_cmp}
+use Rattle.std.specs.FinMap as fin
 use Rattle.std.proofs.lemmas.Bool.{both_ways, cases_Bool, cases_eq}
 use Rattle.std.proofs.lemmas.List.{map-append}
 use Rattle.std.proofs.lemmas.List.Elements.{Contains-append_cases, Contains-append_left, Contains-append_right}
@@ -21,13 +23,16 @@ use Rattle.md_machine.proofs.lists.Options.{none_some, some_same}
 use Rattle.md_machine.proofs.lists.Rising.{here, in_cons, in_none, there}
 use Rattle.md_list_law.specs.ListShape.{head_word, next_word, IsIn, Names}
 use Rattle.md_list_law.specs.Certificates.{key_fact, next_fact}
+use Rattle.md_list_law.proofs.Order.{above_unmarked, onward_names}
+use Rattle.md_list_law.specs.Walk.{pairs_from}
 use Rattle.md_list_law.proofs.Changing.{heap_after}
+use Rattle.md_list_law.proofs.Pairs.{found-pair, gap_empty, pair-found}
 use Rattle.md_queue_law.specs.QueueShape.{IsOf}
 use Rattle.md_store_law.specs.Store.{IsStore}
 use Rattle.md_store_law.specs.Laws.Nodes.{placed_exist}
 use Rattle.md_store_counts.specs.Few.{words_of_changes}
 use Rattle.md_store_counts.proofs.Doing.{Does, Gap, IsBucketWord, Tidies, Unlinked, dequeues, enqueues, inserts, marks, moves, unlinks}
-use Rattle.md_store_counts.proofs.Charges.{IsCovered, at_head, at_key, at_last, at_place, at_tail, own}
+use Rattle.md_store_counts.proofs.Charges.{HasKey, IsCovered, Leads, Payers, at_absent, at_head, at_key, at_last, at_place, at_tail, own}
 use Rattle.md_store_counts.proofs.HeapAfter.{placed_or_new, shape_stays, word_changes, word_stays}
 
 decide_in : (xs : List ℕ) (x : ℕ) → Contains xs x ⊎ (Contains xs x → ⊥)
@@ -36,6 +41,10 @@ decide_in (y ∷ ys) x = ⊎_elim
     (λ same. inl (subst (Contains (y ∷ ys)) same (here y ys)))
     (λ apart. ⊎_elim (λ i. inl (there y ys x i)) (λ no. inr (λ i. ⊎_elim apart no (in_cons y ys x i))) (decide_in ys x))
     (cases_eq y x)
+
+none_or_some : (o : Option ℕ) → (o ≡ None) ⊎ ((v : ℕ) × (o ≡ Some v))
+none_or_some None = inl refl
+none_or_some (Some v) = inr (v, refl)
 
 -- the words of a change among others
 in_more : (done : List Change) (c : Change) (word : ℕ) → Contains (words_of_changes (done ++ c ∷ [])) word
@@ -51,15 +60,24 @@ in_left done c word i = subst (λ l. Contains l word) (sym (map-append (λ (x : 
 in_last : (done : List Change) (c : Change) → Contains (words_of_changes (done ++ c ∷ [])) c.word
 in_last done c = subst (λ l. Contains l c.word) (sym (map-append (λ (x : Change). x.word) done (c ∷ []))) (Contains-append_right (words_of_changes done) (c.word ∷ []) c.word (here c.word []))
 
-module _ (h : LogicalHeap) (valid : IsStore h) (nexts notes : List ℕ) (Keys : ℕ → ℕ → Type 0) (Queues : ℕ → Type 0) where
+module _ (h : LogicalHeap) (valid : IsStore h) (by : Payers) where
   abbrev shape : Shape
   shape = h.words.shape
+
+  abbrev nexts : List ℕ
+  nexts = by.nexts
+
+  abbrev Keys : ℕ → ℕ → Type 0
+  Keys = by.Keys
+
+  abbrev Queues : ℕ → Type 0
+  Queues = by.Queues
 
   abbrev next : ℕ → ℕ
   next node = next_word shape node
 
   abbrev Covered : ℕ → Type 0
-  Covered word = IsCovered h nexts notes Keys Queues word
+  Covered word = IsCovered h by word
 
   -- what is so of a heap after some changes, by certificates that stand one after another from the first heap
   pub record Reached (k : LogicalHeap) (done : List Change) : Type 0 where
@@ -180,6 +198,25 @@ module _ (h : LogicalHeap) (valid : IsStore h) (nexts notes : List ℕ) (Keys : 
         tidies (moves q from within word of was) =
             absurd (address_differs shape (queue_tail q) (node_next node) within (exists node _ at) (λ x. cc x) (sym word ∙ e))
 
+    -- where a node has a key, and is unmarked, there is no gap for it
+    no_gap : (map key : ℕ) → map < shape.maps → Gap shape k map key c.word → (node : ℕ) → IsIn h (Bucket map (bucket_of shape key)) node
+        → h.words.key_of node ≡ key → is_marked (k.words.value (next node)) ≡ false → ⊥
+    no_gap map key m gap node at has plain =
+        let own = k.words.shape in
+        let list = Bucket map (bucket_of own key) in
+        let head = head_word own map (bucket_of own key) in
+        let same = sym r.same_shape in
+        let bucket = r.valid_now.buckets map (bucket_of own key) (subst (λ (s : Shape). map < s.maps) same m) (bucket_of_below own key) in
+        let g : Gap own k map key c.word = subst (λ s. Gap s k map key c.word) same gap in
+        none_some _ _ (gap_empty k list head bucket.list key c.word (record { unmarked = g.unmarked; after = g.after; before = g.before }))
+        (pair-found k list head bucket.list key (k.words.value_of_node node) (record {
+          node = node;
+          is_in = subst (λ s. IsIn k (Bucket map (bucket_of s key)) node) same (is_there node _ at);
+          unmarked = subst (λ s. is_marked (k.words.value (next_word s node)) ≡ false) same plain;
+          has_key = key_same node _ at ∙ has;
+          has_value = refl;
+        }))
+
     -- a word that is changed for the first time, and is no new node's, is as it was
     module _ (unchanged : Contains (words_of_changes done) c.word → ⊥) (not_new : Contains nexts c.word → ⊥) where
       same : k.words.value c.word ≡ h.words.value c.word
@@ -197,14 +234,15 @@ module _ (h : LogicalHeap) (valid : IsStore h) (nexts notes : List ℕ) (Keys : 
           (λ e. subst (λ w. Names h (Bucket map bucket) (h.words.value w)) (sym e) list.first)
           (λ t. let i = was_there t.0 _ t.1 t.2 in
           subst (λ w. Names h (Bucket map bucket) (h.words.value w)) (sym t.2)
-          (⊎_elim inl (λ above. inr above.0) (list.rises t.0 i)))
+          (onward_names h (Bucket map bucket) _ _ (list.rises t.0 i)))
           word
 
-      cover_insert : (map key : ℕ) → map < shape.maps → Keys map key → Gap shape k map key c.word → Covered c.word
-      cover_insert map key m changed gap =
+      -- the place of an absent key was the last unmarked word before it
+      place_was : (map key : ℕ) → map < shape.maps → Gap shape k map key c.word → Leads h map key c.word
+      place_was map key m gap =
           let list = Bucket map (bucket_of shape key) in
           let value = h.words.value c.word in
-          at_place map key changed (record {
+          record {
             is_map = m;
             unmarked = ap is_marked (sym same) ∙ gap.unmarked;
             after = ⊎_elim inl
@@ -217,20 +255,39 @@ module _ (h : LogicalHeap) (valid : IsStore h) (nexts notes : List ℕ) (Keys : 
                 inr (i, omega (arith, above)))
                 gap.before)
                 (names map (bucket_of shape key) m (bucket_of_below shape key) (⊎_elim inl (λ t. inr (t.0, t.1, t.3)) gap.after));
-          })
+          }
 
-      cover_mark : (map key node : ℕ) → map < shape.maps → Keys map key → IsIn k (Bucket map (bucket_of shape key)) node → k.words.key_of node ≡ key
-          → c.word ≡ next node → is_marked c.old ≡ false → Covered c.word
-      cover_mark map key node m changed is_in key_is word plain =
+      -- and the next word of an unmarked node is as it was
+      key_was : (map key node : ℕ) → map < shape.maps → IsIn k (Bucket map (bucket_of shape key)) node → k.words.key_of node ≡ key
+          → c.word ≡ next node → is_marked c.old ≡ false → HasKey h map key c.word
+      key_was map key node m is_in key_is word plain =
           let i = was_there node _ is_in word in
-          at_key map key changed (record {
+          record {
             is_map = m;
             node = node;
             is_in = i;
             key_is = sym (key_same node _ i) ∙ key_is;
             unmarked = ap (λ w. is_marked (h.words.value w)) (sym word) ∙ ap is_marked (sym same ∙ old) ∙ plain;
             is = word;
-          })
+          }
+
+      -- the place of a key that was looked up: the key was absent at first, or it was changed
+      place_looked : (map key : ℕ) → map < shape.maps → by.Named map key → Gap shape k map key c.word → Covered c.word
+      place_looked map key m named gap =
+          let bucket = bucket_of shape key in
+          let list = (valid.buckets map bucket m (bucket_of_below shape key)).list in
+          ⊎_elim
+          (λ none. at_absent map key named (place_was map key m gap) (λ word has.
+          let p = pair-found h (Bucket map bucket) (head_word shape map bucket) list key (h.words.value_of_node has.node)
+          (record { node = has.node; is_in = has.is_in; unmarked = has.unmarked; has_key = has.key_is; has_value = refl }) in
+          none_some _ _ none p))
+          (λ some.
+          let p = found-pair h (Bucket map bucket) (head_word shape map bucket) list key some.0 some.1 in
+          ⊎_elim
+          (λ marked. at_place map key (subst (Keys map) p.has_key (r.marked map bucket p.node p.is_in p.unmarked marked)) (place_was map key m gap))
+          (λ plain. absurd (no_gap map key m gap p.node p.is_in p.has_key plain))
+          (cases_Bool (is_marked (k.words.value (next p.node)))))
+          (none_or_some (fin.find nat_cmp key (pairs_from h.words (head_word shape map bucket))))
 
       cover_enqueue : (queue last : ℕ) → queue < shape.queues → Queues queue → IsOf k queue last → c.word ≡ next last → c.old ≡ 0 → Covered c.word
       cover_enqueue queue last within changed of word zero = at_last queue changed (record {
@@ -266,7 +323,9 @@ module _ (h : LogicalHeap) (valid : IsStore h) (nexts notes : List ℕ) (Keys : 
         less_before first i word = ⊎_elim
             (λ none. absurd (not_null (sym was_linked ∙ ap (λ w. linked_node (h.words.value w)) word ∙ none)))
             (λ above. subst (λ n. h.words.key_of first < h.words.key_of n) (ap (λ w. linked_node (h.words.value w)) (sym word) ∙ was_linked) above.1)
-            ((valid.buckets map bucket u.is_map u.is_bucket).list.rises first i)
+            (above_unmarked h (Bucket map bucket) (h.words.key_of first) (h.words.value (next first))
+            (ap (λ w. is_marked (h.words.value w)) (sym word) ∙ ap is_marked was_value ∙ is_marked-link_value node false)
+            ((valid.buckets map bucket u.is_map u.is_bucket).list.rises first i))
 
         abbrev place_list : Structure
         place_list = Bucket map (bucket_of shape (h.words.key_of node))
@@ -294,18 +353,38 @@ module _ (h : LogicalHeap) (valid : IsStore h) (nexts notes : List ℕ) (Keys : 
               before = inr before_place;
             })
 
+      -- a change of the operation, or a tidy change, that is the first one of its word
       cover_first : IsDone → Covered c.word
       cover_first is = ⊎_elim does (λ t. ⊎_elim (λ covered. covered) (tidies t.0) t.1) is
         where
           does : Does shape Keys Queues (Unit {0}) k c → Covered c.word
-          does (inserts m key is_map changed gap plain) = cover_insert m key is_map changed gap
-          does (marks m key x is_map changed is_in key_is word plain) = cover_mark m key x is_map changed is_in key_is word plain
+          does (inserts m key is_map changed gap plain) = at_place m key changed (place_was m key is_map gap)
+          does (marks m key x is_map changed is_in key_is word plain) = at_key m key (by.named m key changed) (key_was m key x is_map is_in key_is word plain)
           does (enqueues q last within changed of word zero) = cover_enqueue q last within changed of word zero
           does (dequeues q within changed took word) = at_head q changed word
 
           tidies : Tidies shape k c → Contains (words_of_changes done) (next (linked_node c.old)) → Covered c.word
           tidies (unlinks m b y u) passed = cover_unlink m b y u (subst (λ n. Contains (words_of_changes done) (next n)) (ap linked_node u.old ∙ linked_node-link_value y false) passed)
           tidies (moves q from within word of was) passed = at_tail q (r.queued (next from) (subst (λ n. Contains (words_of_changes done) (next n)) (ap linked_node was ∙ linked_node-link_value from false) passed) q from of refl) word
+
+    -- a word that was changed before is charged, and so is the next word of a new node
+    unless_first : ((Contains (words_of_changes done) c.word → ⊥) → (Contains nexts c.word → ⊥) → Covered c.word) → Covered c.word
+    unless_first first = ⊎_elim own
+        (λ not_new. ⊎_elim
+        (r.covered c.word)
+        (λ unchanged. first unchanged not_new)
+        (decide_in (words_of_changes done) c.word))
+        (decide_in nexts c.word)
+
+    -- the next word of the node of a key that was looked up
+    pub cover_found : (map key node : ℕ) → map < shape.maps → by.Named map key → IsIn k (Bucket map (bucket_of shape key)) node
+        → k.words.key_of node ≡ key → c.word ≡ next node → is_marked c.old ≡ false → Covered c.word
+    cover_found map key node m named is_in key_is word plain =
+        unless_first (λ unchanged not_new. at_key map key named (key_was unchanged not_new map key node m is_in key_is word plain))
+
+    -- the place of one that was looked up in vain
+    pub cover_missed : (map key : ℕ) → map < shape.maps → by.Named map key → Gap shape k map key c.word → Covered c.word
+    cover_missed map key m named gap = unless_first (λ unchanged not_new. place_looked unchanged not_new map key m named gap)
 
     -- so after it each changed word is charged, as before
     module _ (ns : List NewNode) (is : IsDone)
@@ -368,12 +447,7 @@ module _ (h : LogicalHeap) (valid : IsStore h) (nexts notes : List ℕ) (Keys : 
           (placed_or_new k (c ∷ []) ns node (Queue queue) at)
 
       covered_now : Covered c.word
-      covered_now = ⊎_elim own
-          (λ not_new. ⊎_elim
-          (r.covered c.word)
-          (λ unchanged. cover_first unchanged not_new is)
-          (decide_in (words_of_changes done) c.word))
-          (decide_in nexts c.word)
+      covered_now = unless_first (λ unchanged not_new. cover_first unchanged not_new is)
 
       pub reached_more : Reached then more
       reached_more = record {

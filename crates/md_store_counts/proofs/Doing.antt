@@ -9,7 +9,7 @@ use Rattle.md_words.specs.Place.{queue_head, queue_tail}
 use Rattle.md_words.specs.Layout.{address, bucket_of, IsNode}
 use Rattle.md_words.proofs.Words.{is_marked-link_value}
 use Rattle.md_history.specs.declared.acts.Op.{Op}
-use Rattle.md_history.specs.declared.acts.Op.TheVariants.{Get, Insert, Remove, Enqueue, Dequeue, Front, Line}
+use Rattle.md_history.specs.declared.acts.Op.TheVariants.{Get, Insert, Remove, Put, Enqueue, Dequeue, Front, Line}
 use Rattle.md_history.specs.Counts.{changed_key, changed_queue, dequeued}
 use Rattle.md_machine.specs.declared.certificate.Certificate.{Certificate}
 use Rattle.md_machine.specs.declared.certificate.Change.{Change}
@@ -21,7 +21,7 @@ use Rattle.md_machine.specs.declared.node.Structure.TheVariants.{Bucket, Queue}
 use Rattle.md_machine.specs.LogicalHeap.{Holds, LogicalHeap}
 use Rattle.md_machine.specs.Meaning.{Stands, TidyStands}
 use Rattle.md_machine.proofs.lists.Rising.{here, in_cons, in_none}
-use Rattle.md_list_law.specs.Certificates.{IsPlaceOf, IsRow, get_some, get_none, insert_false, insert_true, key_fact, node_fact, pair_fact, next_fact, remove_none, remove_some}
+use Rattle.md_list_law.specs.Certificates.{IsPlaceOf, IsRow, get_some, get_none, PlacesNode, insert_false, insert_true, key_fact, node_fact, pair_fact, next_fact, put_none, put_some, remove_none, remove_some}
 use Rattle.md_list_law.specs.ListShape.{head_word, next_word, IsIn, NamesAbove}
 use Rattle.md_queue_law.specs.QueueShape.{IsOf, link}
 use Rattle.md_queue_law.specs.QueueCertificates.{CertifiesOp, has_key, has_next, head_change, new_node, next_change}
@@ -31,6 +31,11 @@ use Rattle.md_store_law.specs.Store.{store}
 abbrev pub IsBucketWord : Shape → LogicalHeap → (map bucket word : ℕ) → Type 0
 IsBucketWord shape k map bucket word =
     (word ≡ head_word shape map bucket) ⊎ ((node : ℕ) × IsIn k (Bucket map bucket) node × (word ≡ next_word shape node))
+
+-- a word of a queue that an operation may record: its head, or the next word of one of its nodes
+abbrev pub IsQueueWord : Shape → LogicalHeap → (word : ℕ) → Type 0
+IsQueueWord shape k word = (queue : ℕ) × (queue < shape.queues)
+    × ((word ≡ address shape (queue_head queue)) ⊎ ((node : ℕ) × IsOf k queue node × (word ≡ next_word shape node)))
 
 -- the place of an absent key in a heap
 pub record Gap (shape : Shape) (k : LogicalHeap) (map key word : ℕ) : Type 0 where
@@ -74,7 +79,7 @@ module _ (k : LogicalHeap) where
       → (k.placed node ≡ Some list) × (k.words.key_of node ≡ key)
   is_in_of facts hold list node key c = let f = All-contains (Holds k) facts (key_fact list node key) hold c in (f.placed, f.key)
 
-  gap_of : (shape : Shape) (map key word value : ℕ) (facts : List Fact) → All (Holds k) facts → k.words.value word ≡ value
+  pub gap_of : (shape : Shape) (map key word value : ℕ) (facts : List Fact) → All (Holds k) facts → k.words.value word ≡ value
       → IsPlaceOf shape (Bucket map (bucket_of shape key)) (head_word shape map (bucket_of shape key)) facts key word value
       → Gap shape k map key word
   gap_of shape map key word value facts hold e is = record {
@@ -98,17 +103,26 @@ module _ (k : LogicalHeap) where
     old_of : (change : Change) → c.changes ≡ change ∷ [] → k.words.value change.word ≡ change.old
     old_of change e = All-contains (λ (x : Change). k.words.value x.word ≡ x.old) c.changes change stands.old (subst (λ l. Contains l change) (sym e) (here change []))
 
+    place_effect : (map key value : ℕ) → map < here_shape.maps → changed_key c.op c.reply ≡ Some (map, key)
+        → PlacesNode here_shape (Bucket map (bucket_of here_shape key)) (head_word here_shape map (bucket_of here_shape key)) c key value → Effect here_shape Keys Queues Took k c
+    place_effect map key value m changed is =
+        let change : Change = record { word = is.word; old = is.old; new = link_value is.node false } in
+        changes change is.changes (inserts map key m (keys map key changed)
+        (gap_of here_shape map key is.word is.old c.facts stands.facts (old_of change is.changes) is.place)
+        (is_marked-link_value is.node false))
+
     row_effect : (map key : ℕ) → map < here_shape.maps → IsRow here_shape (Bucket map (bucket_of here_shape key)) (head_word here_shape map (bucket_of here_shape key)) map key c
         → Effect here_shape Keys Queues Took k c
     row_effect map key m (get_some node value op reply is r) = still is.changes is.nodes
     row_effect map key m (get_none op reply is r) = still is.changes is.nodes
     row_effect map key m (insert_false node value op reply is r) = still is.changes is.nodes
-    row_effect map key m (insert_true value op reply is) =
-        let change : Change = record { word = is.word; old = is.old; new = link_value is.node false } in
-        changes change is.changes (inserts map key m
-        (keys map key (ap (λ o. changed_key o c.reply) op ∙ ap (changed_key (Insert map key value)) reply))
-        (gap_of here_shape map key is.word is.old c.facts stands.facts (old_of change is.changes) is.place)
-        (is_marked-link_value is.node false))
+    row_effect map key m (insert_true value op reply is) = place_effect map key value m
+        (ap (λ o. changed_key o c.reply) op ∙ ap (changed_key (Insert map key value)) reply) is
+    row_effect map key m (put_none value op reply is) = place_effect map key value m (ap (λ o. changed_key o c.reply) op) is
+    row_effect map key m (put_some old value op reply is) =
+        let change : Change = record { word = next_word here_shape is.node; old = is.next; new = link_value is.new true } in
+        let f = All-contains (Holds k) c.facts (pair_fact (Bucket map (bucket_of here_shape key)) is.node key old) stands.facts is.fact in
+        changes change is.changes (marks map key is.node m (keys map key (ap (λ o. changed_key o c.reply) op)) f.placed f.key refl is.unmarked)
     row_effect map key m (remove_none op reply is r) = still is.changes is.nodes
     row_effect map key m (remove_some value op reply is) =
         let change : Change = record { word = next_word here_shape is.node; old = is.old; new = is.old + 1 } in
@@ -131,6 +145,7 @@ module _ (k : LogicalHeap) where
     queue_effect (Get m key) e is = absurd is
     queue_effect (Insert m key v) e is = absurd is
     queue_effect (Remove m key) e is = absurd is
+    queue_effect (Put m key v) e is = absurd is
 
     pub effect_of : store.certifies here_shape c → Effect here_shape Keys Queues Took k c
     effect_of certifies = ⊎_elim (λ t. row_effect t.0 t.1 t.2 t.3.row) (queue_effect c.op refl) certifies
@@ -178,6 +193,12 @@ module _ (shape : Shape) (Queues : ℕ → Type 0) (c : Certificate) (queues : (
   row_nodes map key list head apart (insert_true value op reply is) =
       one_new shape Queues c.nodes (record { node = is.node; structure = list; key = key; value = value; next = is.old }) is.nodes
       (is.is_node, λ queue e. absurd (apart queue e))
+  row_nodes map key list head apart (put_none value op reply is) =
+      one_new shape Queues c.nodes (record { node = is.node; structure = list; key = key; value = value; next = is.old }) is.nodes
+      (is.is_node, λ queue e. absurd (apart queue e))
+  row_nodes map key list head apart (put_some old value op reply is) =
+      one_new shape Queues c.nodes (record { node = is.new; structure = list; key = key; value = value; next = is.next }) is.nodes
+      (is.is_node, λ queue e. absurd (apart queue e))
   row_nodes map key list head apart (remove_none op reply is r) = no_new shape Queues c.nodes is.nodes
   row_nodes map key list head apart (remove_some value op reply is) = no_new shape Queues c.nodes is.nodes
 
@@ -190,6 +211,7 @@ module _ (shape : Shape) (Queues : ℕ → Type 0) (c : Certificate) (queues : (
   queue_nodes (Get m key) e is = absurd is
   queue_nodes (Insert m key v) e is = absurd is
   queue_nodes (Remove m key) e is = absurd is
+  queue_nodes (Put m key v) e is = absurd is
 
   pub new_nodes : store.certifies shape c → (n : NewNode) → Contains c.nodes n → IsNewNode shape Queues n
   new_nodes certifies = ⊎_elim

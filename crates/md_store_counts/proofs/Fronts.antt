@@ -38,17 +38,8 @@ use Rattle.md_store_counts.proofs.Doing.{Does, Effect, IsBucketWord, Tidies, cha
 use Rattle.md_store_counts.proofs.HeapAfter.{word_stays}
 use Rattle.md_store_counts.proofs.Lists.{filter_map_in, flat_in, length_flat}
 use Rattle.md_store_counts.proofs.Pigeons.{pigeons}
-use Rattle.md_store_counts.proofs.Placing.{one_if, tidy_places}
+use Rattle.md_store_counts.proofs.Placing.{one_if, row_map, tidy_places}
 use Rattle.md_store_counts.proofs.Recording.{Records, first_next, head_at, queue_records}
-
--- operations on maps
-pub row_map : (shape : Shape) (list : Structure) (head map key : ℕ) (c : Certificate) → IsRow shape list head map key c → is_of_map c.op ≡ true
-row_map shape list head map key c (get_some node value op reply is r) = ap is_of_map op
-row_map shape list head map key c (get_none op reply is r) = ap is_of_map op
-row_map shape list head map key c (insert_false node value op reply is r) = ap is_of_map op
-row_map shape list head map key c (insert_true value op reply is) = ap is_of_map op
-row_map shape list head map key c (remove_none op reply is r) = ap is_of_map op
-row_map shape list head map key c (remove_some value op reply is) = ap is_of_map op
 
 -- the heads of queues after a certificate that moved at most one of them, and then dequeued
 record HeadsMove (shape : Shape) (k l : LogicalHeap) (op : Op) (reply : Reply) : Type 0 where

@@ -1,5 +1,5 @@
 -- How many nodes certificates place.
-use Rattle.std.proofs.Common.{◌≡◌, ◌++◌, ℕ, Bool, List, [], ◌∷◌, length, map, cond, refl, sym, ap, ◌∙◌, ⊎_elim, arith}
+use Rattle.std.proofs.Common.{◌≡◌, ◌++◌, ℕ, Bool, true, List, [], ◌∷◌, length, map, cond, Some, is_some, refl, sym, ap, ◌∙◌, ⊎_elim, arith}
 use Rattle.std.specs.List.{All, flat_map}
 use Rattle.std.proofs.lemmas.List.{length-append}
 use Rattle.std.proofs.lemmas.List.Elements.{All-head, All-tail}
@@ -7,17 +7,31 @@ use Rattle.std.proofs.lemmas.List.Sums.{sum_by-cons}
 use Rattle.md_words.specs.declared.shape.Shape.{Shape}
 use Rattle.md_history.specs.declared.acts.Act.{Act}
 use Rattle.md_history.specs.declared.acts.Op.{Op}
-use Rattle.md_history.specs.declared.acts.Op.TheVariants.{Get, Insert, Remove, Enqueue, Dequeue, Front, Line}
-use Rattle.md_history.specs.Counts.{added, nodes}
+use Rattle.md_history.specs.declared.acts.Op.TheVariants.{Get, Insert, Remove, Put, Enqueue, Dequeue, Front, Line}
+use Rattle.md_history.specs.Counts.{added, named_key, nodes}
 use Rattle.md_machine.specs.declared.certificate.Certificate.{Certificate}
 use Rattle.md_machine.specs.declared.certificate.NewNode.{NewNode}
 use Rattle.md_machine.specs.declared.certificate.TidyChange.{TidyChange}
 use Rattle.md_machine.specs.declared.node.Structure.{Structure}
 use Rattle.md_machine.specs.Certified.{all_nodes, whole_nodes}
-use Rattle.md_list_law.specs.Certificates.{IsRow, get_some, get_none, insert_false, insert_true, remove_none, remove_some}
+use Rattle.md_list_law.specs.Certificates.{IsRow, get_some, get_none, insert_false, insert_true, remove_none, remove_some, put_none, put_some}
 use Rattle.md_queue_law.specs.QueueCertificates.{CertifiesOp}
 use Rattle.md_store_law.specs.Store.{store}
-use Rattle.md_store_counts.specs.Few.{PlacedAreCounted, certificate_acts}
+use Rattle.md_store_counts.specs.Few.{PlacedAreCounted, certificate_acts, is_of_map}
+
+-- a row is of an operation on its key
+pub row_names : (shape : Shape) (list : Structure) (head map key : ℕ) (c : Certificate) → IsRow shape list head map key c → named_key c.op ≡ Some (map, key)
+row_names shape list head map key c (get_some node value op reply is r) = ap named_key op
+row_names shape list head map key c (get_none op reply is r) = ap named_key op
+row_names shape list head map key c (insert_false node value op reply is r) = ap named_key op
+row_names shape list head map key c (insert_true value op reply is) = ap named_key op
+row_names shape list head map key c (remove_none op reply is r) = ap named_key op
+row_names shape list head map key c (remove_some value op reply is) = ap named_key op
+row_names shape list head map key c (put_none value op reply is) = ap named_key op
+row_names shape list head map key c (put_some old value op reply is) = ap named_key op
+
+pub row_map : (shape : Shape) (list : Structure) (head map key : ℕ) (c : Certificate) → IsRow shape list head map key c → is_of_map c.op ≡ true
+row_map shape list head map key c row = ap is_some (row_names shape list head map key c row)
 
 -- one node for an operation that added a pair or a value
 abbrev pub one_if : Bool → ℕ
@@ -31,6 +45,8 @@ row_places shape list head map key c (insert_false node value op reply is r) = a
 row_places shape list head map key c (insert_true value op reply is) = ap length is.nodes ∙ sym (ap one_if (ap (λ o. added o c.reply) op ∙ ap (added (Insert map key value)) reply))
 row_places shape list head map key c (remove_none op reply is r) = ap length is.nodes ∙ sym (ap one_if (ap (λ o. added o c.reply) op))
 row_places shape list head map key c (remove_some value op reply is) = ap length is.nodes ∙ sym (ap one_if (ap (λ o. added o c.reply) op))
+row_places shape list head map key c (put_none value op reply is) = ap length is.nodes ∙ sym (ap one_if (ap (λ o. added o c.reply) op))
+row_places shape list head map key c (put_some old value op reply is) = ap length is.nodes ∙ sym (ap one_if (ap (λ o. added o c.reply) op))
 
 queue_places : (shape : Shape) (op : Op) (c : Certificate) → CertifiesOp shape op c → length c.nodes ≡ one_if (added op c.reply)
 queue_places shape (Enqueue q v) c is = ap length is.1.nodes
@@ -40,6 +56,7 @@ queue_places shape (Line q n) c is = ap length is.1.nodes
 queue_places shape (Get m k) c is = absurd is
 queue_places shape (Insert m k v) c is = absurd is
 queue_places shape (Remove m k) c is = absurd is
+queue_places shape (Put m k v) c is = absurd is
 
 -- a tidy change places none
 pub tidy_places : (shape : Shape) (t : TidyChange) → store.tidies shape t → t.nodes ≡ []

@@ -1,31 +1,28 @@
 -- How few different words certificates record.
-use Rattle.std.proofs.Common.{◌≡◌, ◌⊎◌, ◌<◌, ◌≤◌, ◌+◌, ◌++◌, ◌∙◌, ℕ, suc, List, [], ◌∷◌, Some, length, map, refl, sym, ap, subst, inl, inr, ⊎_elim, arith}
-use Rattle.std.specs.List.{Contains}
-use Rattle.std.proofs.lemmas.List.{length-append, length-map}
-use Rattle.std.proofs.lemmas.List.Elements.{All-contains, Contains-append_cases}
+use Rattle.std.proofs.Common.{◌≡◌, ◌⊎◌, ◌<◌, ◌≤◌, ◌+◌, ◌∙◌, ℕ, List, [], ◌∷◌, Some, length, map, refl, sym, ap, subst, inl, inr, ⊎_elim, arith}
+use Rattle.std.specs.List.{All, Contains}
+use Rattle.std.proofs.lemmas.List.Elements.{All-contains, All-head, All-tail}
 use Rattle.md_words.specs.declared.shape.Shape.{Shape}
 use Rattle.md_words.specs.Link.{linked_node}
 use Rattle.md_words.specs.Place.{queue_head}
 use Rattle.md_words.specs.Layout.{address}
 use Rattle.md_history.specs.declared.acts.Op.{Op}
-use Rattle.md_history.specs.declared.acts.Op.TheVariants.{Get, Insert, Remove, Enqueue, Dequeue, Front, Line}
+use Rattle.md_history.specs.declared.acts.Op.TheVariants.{Get, Insert, Remove, Put, Enqueue, Dequeue, Front, Line}
 use Rattle.md_history.specs.declared.acts.Reply.{Reply}
 use Rattle.md_history.specs.Counts.{asked_queue, changed_nothing, line_words}
 use Rattle.md_machine.specs.declared.certificate.Certificate.{Certificate}
-use Rattle.md_machine.specs.declared.certificate.Change.{Change}
-use Rattle.md_machine.specs.declared.certificate.Fact.{Fact}
 use Rattle.md_machine.specs.declared.certificate.WordValue.{WordValue}
 use Rattle.md_machine.specs.LogicalHeap.{Holds, LogicalHeap}
 use Rattle.md_machine.specs.Meaning.{Stands}
-use Rattle.md_machine.proofs.lists.Rising.{here, in_cons, in_map, in_none, map_in, there}
+use Rattle.md_machine.proofs.lists.Rising.{here, in_cons, in_none}
 use Rattle.md_list_law.specs.ListShape.{next_word}
 use Rattle.md_queue_law.specs.QueueShape.{IsOf, head_of, link}
-use Rattle.md_queue_law.specs.QueueCertificates.{CertifiesOp, Dequeues, LooksAlong, LooksEnough, LooksToEnd, Seen, has_value, head_change, head_is, last_seen, next_is, next_words}
+use Rattle.md_queue_law.specs.QueueCertificates.{CertifiesOp, Dequeues, FindsFirst, LooksAlong, LooksEnough, LooksToEnd, Seen, facts_along, has_next, has_value, head_is, last_seen, next_is}
 use Rattle.md_queue_law.specs.Laws.Named.{named_is_of}
 use Rattle.md_queue_law.specs.Laws.Words.{linked_node-link}
 use Rattle.md_store_law.specs.Store.{IsStore}
 use Rattle.md_store_counts.specs.Few.{recorded_by}
-use Rattle.md_store_counts.proofs.Chaining.{IsQueueWord}
+use Rattle.md_store_counts.proofs.Doing.{IsQueueWord}
 use Rattle.md_store_counts.proofs.Placing.{one_if}
 
 -- the word of a queue's head, and the next word of the node that it names in a heap
@@ -62,10 +59,6 @@ two_recorded c r s e word i = ⊎_elim (λ x. inl (sym x))
 none_recorded : (c : Certificate) → c.recorded ≡ [] → (word : ℕ) → Contains (recorded_by c) word → ⊥
 none_recorded c e word i = in_none word (subst (λ (l : List WordValue). Contains (map (λ x. x.word) l) word) e i)
 
-next_words_length : (shape : Shape) (node : ℕ) (seen : List Seen) → length (next_words shape node seen) ≡ length seen
-next_words_length shape node [] = refl
-next_words_length shape node (s ∷ seen) = ap suc (next_words_length shape s.node seen)
-
 module _ (k : LogicalHeap) (valid : IsStore k) (c : Certificate) (stands : Stands k c) where
   abbrev of_k : Shape
   of_k = k.words.shape
@@ -97,110 +90,92 @@ module _ (k : LogicalHeap) (valid : IsStore k) (c : Certificate) (stands : Stand
     two_words word i = (queue, within, ⊎_elim inl (λ e. inr (dummy, dummy_of queue dummy within head_named, e)) (two_recorded c (head_is of_k queue (link dummy)) (next_is of_k dummy next) is word i))
 
   module _ (queue : ℕ) (within : queue < of_k.queues) (d : Dequeues of_k queue c) where
-    taken_head : k.words.value (head_at of_k queue) ≡ link d.dummy
-    taken_head = All-contains (λ (x : Change). k.words.value x.word ≡ x.old) c.changes (head_change of_k queue (link d.dummy) (link d.first)) stands.old
-        (subst (λ l. Contains l (head_change of_k queue (link d.dummy) (link d.first))) (sym d.changes)
-        (here (head_change of_k queue (link d.dummy) (link d.first)) []))
-
+    -- a dequeue that gives a value records nothing
     dequeue_front : Records of_k k (Dequeue queue) c
-    dequeue_front = record {
+    dequeue_front = record { more = []; few = omega arith; each = λ word i. absurd (none_recorded c d.recorded word i) }
+
+  -- a front that gives one records the head
+  module _ (queue : ℕ) (within : queue < of_k.queues) (f : FindsFirst of_k queue c) where
+    front_front : Records of_k k (Front queue) c
+    front_front = record {
       more = [];
       few = omega arith;
-      each = λ word i. inr (queue, refl, within, inr (one_recorded c (next_is of_k d.dummy (link d.first)) d.recorded word i ∙ front_of queue d.dummy taken_head));
+      each = λ word i. inr (queue, refl, within, inl (one_recorded c (head_is of_k queue (link f.dummy)) f.recorded word i));
     }
 
-    dequeue_words : (word : ℕ) → Contains (recorded_by c) word → IsQueueWord of_k k word
-    dequeue_words word i = (queue, within, inr (d.dummy, dummy_of queue d.dummy within taken_head, one_recorded c (next_is of_k d.dummy (link d.first)) d.recorded word i))
+    front_words : (word : ℕ) → Contains (recorded_by c) word → IsQueueWord of_k k word
+    front_words word i = (queue, within, inl (one_recorded c (head_is of_k queue (link f.dummy)) f.recorded word i))
 
   module _ (queue n : ℕ) (within : queue < of_k.queues) (l : LooksAlong of_k queue n c) where
     looked_head : k.words.value (head_at of_k queue) ≡ link l.dummy
     looked_head = has (head_is of_k queue (link l.dummy)) (subst (λ x. Contains x (head_is of_k queue (link l.dummy))) (sym l.recorded)
-        (here (head_is of_k queue (link l.dummy)) (next_words of_k l.dummy l.seen ++ l.ending)))
+        (here (head_is of_k queue (link l.dummy)) l.ending))
 
-    after_head : List ℕ
-    after_head = map (λ (x : WordValue). x.word) (next_words of_k l.dummy l.seen ++ l.ending)
+    -- a line records the head, and the last next word if it came to the end
+    head_or_end : (word : ℕ) → Contains (recorded_by c) word → (word ≡ head_at of_k queue) ⊎ Contains (map (λ (x : WordValue). x.word) l.ending) word
+    head_or_end word i = ⊎_elim (λ e. inl (sym e)) inr
+        (in_cons (head_at of_k queue) (map (λ (x : WordValue). x.word) l.ending) word (subst (λ (x : List WordValue). Contains (map (λ y. y.word) x) word) l.recorded i))
 
-    head_or_after : (word : ℕ) → Contains (recorded_by c) word → (word ≡ head_at of_k queue) ⊎ Contains after_head word
-    unfolding after_head
-    head_or_after word i = ⊎_elim (λ e. inl (sym e)) inr
-        (in_cons (head_at of_k queue) (map (λ (x : WordValue). x.word) (next_words of_k l.dummy l.seen ++ l.ending)) word
-        (subst (λ (x : List WordValue). Contains (map (λ y. y.word) x) word) l.recorded i))
-
-    few_after : length after_head ≤ n + 1
-    unfolding after_head
-    few_after =
-        let a = length-map (next_words of_k l.dummy l.seen ++ l.ending) (λ (x : WordValue). x.word) in
-        let b = length-append (next_words of_k l.dummy l.seen) l.ending in
-        let d = next_words_length of_k l.dummy l.seen in
-        ⊎_elim
-        (λ (e : LooksEnough n l.seen l.ending). let x = e.all in let y = ap (λ (z : List WordValue). length z) e.is in omega (arith, a, b, d, x, y))
-        (λ (e : LooksToEnd of_k l.dummy n l.seen l.ending). let x = e.fewer in let y = ap (λ (z : List WordValue). length z) e.is in omega (arith, a, b, d, x, y))
+    few_at_end : length (map (λ (x : WordValue). x.word) l.ending) ≤ n + 1
+    few_at_end = ⊎_elim
+        (λ (e : LooksEnough n l.seen l.ending). subst (λ (x : List WordValue). length (map (λ (y : WordValue). y.word) x) ≤ n + 1) (sym e.is) (omega arith))
+        (λ (e : LooksToEnd of_k l.dummy n l.seen l.ending). subst (λ (x : List WordValue). length (map (λ (y : WordValue). y.word) x) ≤ n + 1) (sym e.is) (omega arith))
         l.ends
 
     line_front : (m : ℕ) → m ≡ n → Records of_k k (Line queue m) c
     line_front m same = record {
-      more = after_head;
-      few = let f = few_after in omega (arith, f, same);
-      each = λ word i. ⊎_elim (λ e. inr (queue, refl, within, inl e)) inl (head_or_after word i);
+      more = map (λ (x : WordValue). x.word) l.ending;
+      few = let f = few_at_end in omega (arith, f, same);
+      each = λ word i. ⊎_elim (λ e. inr (queue, refl, within, inl e)) inl (head_or_end word i);
     }
 
-    -- the nodes seen are of the queue
-    seen_of : (s : Seen) → Contains l.seen s → IsOf k queue s.node
-    seen_of s i = (All-contains (Holds k) c.facts (has_value queue s.node s.value) stands.facts
-        (subst (λ (x : List Fact). Contains x (has_value queue s.node s.value)) (sym l.facts) (map_in (λ (s : Seen). has_value queue s.node s.value) l.seen s i))).placed
+    -- the last node seen is of the queue
+    last_of : (node : ℕ) (seen : List Seen) → IsOf k queue node → All (Holds k) (facts_along queue node seen) → IsOf k queue (last_seen node seen)
+    last_of node [] at hold = at
+    last_of node (s ∷ seen) at hold =
+        let along = has_value queue s.node s.value ∷ facts_along queue s.node seen in
+        let rest = All-tail (Holds k) (has_next queue node (link s.node)) along hold in
+        last_of s.node seen (All-head (Holds k) (has_value queue s.node s.value) (facts_along queue s.node seen) rest).placed
+        (All-tail (Holds k) (has_value queue s.node s.value) (facts_along queue s.node seen) rest)
 
-    along : (node : ℕ) (seen : List Seen) → IsOf k queue node → ((s : Seen) → Contains seen s → IsOf k queue s.node)
-        → (r : WordValue) → Contains (next_words of_k node seen) r → (x : ℕ) × IsOf k queue x × (r.word ≡ next_word of_k x)
-    along node [] at each r i = absurd (in_none r i)
-    along node (s ∷ seen) at each r i = ⊎_elim
-        (λ e. (node, at, ap (λ (x : WordValue). x.word) (sym e)))
-        (λ later. along s.node seen (each s (here s seen)) (λ t j. each t (there s seen t j)) r later)
-        (in_cons (next_is of_k node (link s.node)) (next_words of_k s.node seen) r i)
-
-    last_of : (node : ℕ) (seen : List Seen) → IsOf k queue node → ((s : Seen) → Contains seen s → IsOf k queue s.node) → IsOf k queue (last_seen node seen)
-    last_of node [] at each = at
-    last_of node (s ∷ seen) at each = last_of s.node seen (each s (here s seen)) (λ t j. each t (there s seen t j))
+    end_of : IsOf k queue (last_seen l.dummy l.seen)
+    end_of = last_of l.dummy l.seen (dummy_of queue l.dummy within looked_head) (subst (All (Holds k)) l.facts stands.facts)
 
     line_words_of : (word : ℕ) → Contains (recorded_by c) word → IsQueueWord of_k k word
-    unfolding after_head
     line_words_of word i = (
       queue,
       within,
       ⊎_elim inl
-          (λ later.
-          let r = in_map (λ (x : WordValue). x.word) (next_words of_k l.dummy l.seen ++ l.ending) word later in
-          let dummy = dummy_of queue l.dummy within looked_head in
-          inr (⊎_elim
-          (λ j. let x = along l.dummy l.seen dummy seen_of r.0 j in (x.0, x.1, sym r.2 ∙ x.2))
-          (λ j. ⊎_elim
-          (λ (e : LooksEnough n l.seen l.ending). absurd (in_none r.0 (subst (λ z. Contains z r.0) e.is j)))
+          (λ later. inr (⊎_elim
+          (λ (e : LooksEnough n l.seen l.ending). absurd (in_none word (subst (λ (x : List WordValue). Contains (map (λ (y : WordValue). y.word) x) word) e.is later)))
           (λ (e : LooksToEnd of_k l.dummy n l.seen l.ending). ⊎_elim
-          (λ same. (last_seen l.dummy l.seen, last_of l.dummy l.seen dummy seen_of, sym r.2 ∙ ap (λ (x : WordValue). x.word) (sym same)))
-          (λ none. absurd (in_none r.0 none))
-          (in_cons (next_is of_k (last_seen l.dummy l.seen) 0) [] r.0 (subst (λ z. Contains z r.0) e.is j)))
-          l.ends)
-          (Contains-append_cases (next_words of_k l.dummy l.seen) l.ending r.0 r.1)))
-          (head_or_after word i),
+          (λ same. (last_seen l.dummy l.seen, end_of, sym same))
+          (λ none. absurd (in_none word none))
+          (in_cons (next_word of_k (last_seen l.dummy l.seen)) [] word (subst (λ (x : List WordValue). Contains (map (λ (y : WordValue). y.word) x) word) e.is later)))
+          l.ends))
+          (head_or_end word i),
     )
 
   pub queue_records : (op : Op) → CertifiesOp of_k op c → Records of_k k op c
   queue_records (Enqueue q v) (within, is) = record { more = []; few = omega arith; each = λ word i. absurd (none_recorded c is.recorded word i) }
   queue_records (Dequeue q) (within, is) = ⊎_elim (dequeue_front q within) (λ n. two_front q n.dummy 0 within n.recorded (Dequeue q) refl) is
   queue_records (Front q) (within, is) = ⊎_elim
-      (λ f. two_front q f.dummy (link f.first) within f.recorded (Front q) refl)
+      (front_front q within)
       (λ n. two_front q n.dummy 0 within n.recorded (Front q) refl)
       is
   queue_records (Line q n) (within, is) = line_front q n within is n refl
   queue_records (Get m key) is = absurd is
   queue_records (Insert m key v) is = absurd is
   queue_records (Remove m key) is = absurd is
+  queue_records (Put m key v) is = absurd is
 
   -- a word that an operation on a queue records is a queue's
   pub queue_words : (op : Op) → CertifiesOp of_k op c → (word : ℕ) → Contains (recorded_by c) word → IsQueueWord of_k k word
   queue_words (Enqueue q v) (within, is) = λ word i. absurd (none_recorded c is.recorded word i)
-  queue_words (Dequeue q) (within, is) = ⊎_elim (dequeue_words q within) (λ n. two_words q n.dummy 0 within n.recorded) is
-  queue_words (Front q) (within, is) = ⊎_elim (λ f. two_words q f.dummy (link f.first) within f.recorded) (λ n. two_words q n.dummy 0 within n.recorded) is
+  queue_words (Dequeue q) (within, is) = ⊎_elim (λ d word i. absurd (none_recorded c d.recorded word i)) (λ n. two_words q n.dummy 0 within n.recorded) is
+  queue_words (Front q) (within, is) = ⊎_elim (front_words q within) (λ n. two_words q n.dummy 0 within n.recorded) is
   queue_words (Line q n) (within, is) = line_words_of q n within is
   queue_words (Get m key) is = absurd is
   queue_words (Insert m key v) is = absurd is
   queue_words (Remove m key) is = absurd is
+  queue_words (Put m key v) is = absurd is

@@ -29,6 +29,8 @@ empty_store = record {
       unmarked = refl;
       first = inl refl;
       rises = λ node i. absurd (cc i);
+      rank = λ node. 0;
+      ranks = λ node i. absurd (cc i);
       reached = λ node i. absurd (cc i);
     };
     keys = λ node i. absurd (cc i);
@@ -287,11 +289,11 @@ valid_removed : IsStore two_removed
 valid_removed = let s = removals_stand in
     let f = wholes_follow store store_lawful list_shape empty_list empty_list (itself empty_list) refl s.valid removals s.certifies s.tidies s.stand in f.valid
 
--- word 1 is neither recorded, nor a new node's, nor changed before, and no word was changed before
+-- no word was recorded before, or is a new node's, or was changed before
 not_charged : AllCharged list_shape [] (get_9 ∷ []) → ⊥
 unfolding address
 not_charged all = elim all.0.0 [
-  | recorded i ↦ ⊎_elim (λ e. absurd (omega (arith, e))) (λ none. absurd (in_none 1 none)) (in_cons 4 [] 1 i)
+  | recorded i ↦ absurd (in_none 1 i)
   | placed i ↦ absurd (in_none 1 i)
   | again i ↦ absurd (in_none 1 i)
   | passes i ↦ absurd (in_none _ i)

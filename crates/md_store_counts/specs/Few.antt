@@ -1,14 +1,13 @@
 -- How many different words the certificates of a transaction record and change, and how many nodes they place, by the
 -- counts of their acts.
-use Rattle.std.specs.Prelude.{◌≡◌, ◌≢◌, ◌≤◌, ℕ, Bool, true, false, List, [], ◌∷◌, ◌++◌, map, length, All, Contains, if◌then◌else◌}
+use Rattle.std.specs.Prelude.{◌≡◌, ◌≢◌, ◌≤◌, ℕ, Bool, true, List, [], ◌∷◌, ◌++◌, map, length, All, Contains, if◌then◌else◌, is_some}
 use Rattle.std.specs.List.{flat_map, AllPairs}
 use Rattle.md_words.specs.declared.shape.Shape.{Shape}
 use Rattle.md_words.specs.Link.{linked_node}
 use Rattle.md_history.specs.declared.acts.Act.{Act}
 use Rattle.md_history.specs.declared.acts.Op.{Op}
-use Rattle.md_history.specs.declared.acts.Op.TheVariants.{Get, Insert, Remove}
 use Rattle.md_history.specs.Act.{act_of}
-use Rattle.md_history.specs.Counts.{changed_nothing, reads, writes, nodes}
+use Rattle.md_history.specs.Counts.{named_key, changed_nothing, reads, writes, nodes}
 use Rattle.md_machine.specs.declared.certificate.Certificate.{Certificate}
 use Rattle.md_machine.specs.declared.certificate.Change.{Change}
 use Rattle.md_machine.specs.declared.certificate.TidyChange.{TidyChange}
@@ -46,33 +45,40 @@ placed_nexts shape cs = map (λ n. next_word shape n.node) (all_nodes cs)
 
 -- an operation on a map
 abbrev pub is_of_map : Op → Bool
-is_of_map (Get map key) = true
-is_of_map (Insert map key value) = true
-is_of_map (Remove map key) = true
-is_of_map op = false
+is_of_map op = is_some (named_key op)
 
 -- of operations on maps, those that changed nothing record one word at most, and others none
 abbrev pub RecordsOne : Certificate → Type 0
 RecordsOne c = is_of_map c.op ≡ true → length c.recorded ≤ (if changed_nothing c.op c.reply then 1 else 0)
 
--- A tidy change after other changes is charged: its word was recorded, or is the next word of a new node, or was changed
+-- A tidy change after other changes is charged: its word is a recorded one, or the next word of a new node, or was changed
 -- before; or the next word of the node that it passes over was changed before.
-pub data IsCharged (shape : Shape) (cs : List Certificate) (before : List Change) (t : TidyChange) : Type 0 where
-  recorded : Contains (recorded_words cs) t.change.word → IsCharged shape cs before t
-  placed : Contains (placed_nexts shape cs) t.change.word → IsCharged shape cs before t
-  again : Contains (words_of_changes before) t.change.word → IsCharged shape cs before t
-  passes : Contains (words_of_changes before) (next_word shape (linked_node t.change.old)) → IsCharged shape cs before t
+pub data IsCharged (shape : Shape) (read nexts : List ℕ) (before : List Change) (t : TidyChange) : Type 0 where
+  recorded : Contains read t.change.word → IsCharged shape read nexts before t
+  placed : Contains nexts t.change.word → IsCharged shape read nexts before t
+  again : Contains (words_of_changes before) t.change.word → IsCharged shape read nexts before t
+  passes : Contains (words_of_changes before) (next_word shape (linked_node t.change.old)) → IsCharged shape read nexts before t
 
 -- so is each of some tidy changes, one after another
-abbrev pub TidyCharged : Shape → List Certificate → List Change → List TidyChange → Type 0
-TidyCharged shape cs before [] = Unit {0}
-TidyCharged shape cs before (t ∷ ts) = IsCharged shape cs before t × TidyCharged shape cs (before ++ t.change ∷ []) ts
+abbrev pub TidyCharged : Shape → (read nexts : List ℕ) → (before : List Change) → List TidyChange → Type 0
+TidyCharged shape read nexts before [] = Unit {0}
+TidyCharged shape read nexts before (t ∷ ts) =
+    IsCharged shape read nexts before t × TidyCharged shape read nexts (before ++ t.change ∷ []) ts
 
--- and each of each certificate, after some, by what these and itself record and place
+-- The recorded words to which a certificate's tidy changes are charged: those that certificates before it recorded. One of
+-- a queue may name its own, too: no tidy change changes a word that queues record.
+abbrev pub read_before : List Certificate → Certificate → List ℕ
+read_before before c = recorded_words before ++ (if is_of_map c.op then [] else recorded_by c)
+
+-- so is each of a certificate after others, by what was recorded before it, and by what these and itself place
+abbrev pub NextCharged : Shape → (before : List Certificate) → Certificate → Type 0
+NextCharged shape before c =
+    TidyCharged shape (read_before before c) (placed_nexts shape (before ++ c ∷ [])) (all_changes before) c.tidy
+
+-- and each of each of some certificates, one after another, after those before
 abbrev pub AllCharged : Shape → (before cs : List Certificate) → Type 0
 AllCharged shape before [] = Unit {0}
-AllCharged shape before (c ∷ cs) =
-    TidyCharged shape (before ++ c ∷ []) (all_changes before) c.tidy × AllCharged shape (before ++ c ∷ []) cs
+AllCharged shape before (c ∷ cs) = NextCharged shape before c × AllCharged shape (before ++ c ∷ []) cs
 
 -- different words of a kind are at most so many
 abbrev pub AtMost : (most : ℕ) → (ℕ → Type 0) → Type 0
@@ -96,7 +102,7 @@ WrittenAreFew = (h : LogicalHeap) (cs : List Certificate) → StandFrom h cs →
 pub record TidyFrom (h : LogicalHeap) (cs : List Certificate) (ts : List TidyChange) : Type 0 where
   pub tidies : All (store.tidies h.words.shape) ts
   pub stand : TidiesStandBy (after_wholes h cs) (after_wholes h cs) ts
-  pub charged : TidyCharged h.words.shape cs (all_changes cs) ts
+  pub charged : TidyCharged h.words.shape (recorded_words cs) (placed_nexts h.words.shape cs) (all_changes cs) ts
 
 abbrev pub TidiedAreFew : Type 0
 TidiedAreFew = (h : LogicalHeap) (cs : List Certificate) (ts : List TidyChange) → StandFrom h cs → All RecordsOne cs

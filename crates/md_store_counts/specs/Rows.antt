@@ -23,7 +23,7 @@ pub record WorkedCounts : Type 0 where
   pub recorded : recorded_words worked ≡ 7 ∷ []
   pub changed : changed_words worked ≡ 1 ∷ 1 ∷ 7 ∷ 1 ∷ 1 ∷ []
   pub reads : reads (certificate_acts worked) ≡ 1
-  pub writes : writes (certificate_acts worked) ≡ 10
+  pub writes : writes (certificate_acts worked) ≡ 9
   pub nodes : nodes (certificate_acts worked) ≡ 3
 
 -- Why tidy changes must be charged: in the same list 7 is inserted behind 5 and removed. A look-up of 9 that unlinks both

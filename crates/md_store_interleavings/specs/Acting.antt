@@ -2,7 +2,7 @@
 use Rattle.std.specs.Prelude.{◌≡◌, ◌<◌, true, false, Option, None, Some, Result, MatchResult}
 use Rattle.md_words.specs.declared.shape.Shape.{Shape}
 use Rattle.md_history.specs.declared.acts.Op.{Op}
-use Rattle.md_history.specs.declared.acts.Op.TheVariants.{Get, Insert, Remove, Enqueue, Dequeue, Front, Line}
+use Rattle.md_history.specs.declared.acts.Op.TheVariants.{Get, Insert, Remove, Put, Enqueue, Dequeue, Front, Line}
 use Rattle.md_history.specs.declared.acts.Reply.{Reply}
 use Rattle.md_history.specs.declared.stops.Stop.{Stop}
 use Rattle.md_history.specs.Calls.{IsLineLength}
@@ -14,11 +14,12 @@ use Rattle.md_nbtc_law.specs.State.{TxnState}
 use Rattle.md_rule.specs.Views.{FieldView}
 use Rattle.md_store_law.specs.Store.{store}
 
--- the map or the queue of an operation exists, and a line has one to twelve values
+-- the map or the queue of an operation exists, and a line has one to twelve values. Lists have no Put
 abbrev pub Exists : Shape → Op → Type 0
 Exists s (Get map key) = map < s.maps
 Exists s (Insert map key value) = map < s.maps
 Exists s (Remove map key) = map < s.maps
+Exists s (Put map key value) = ⊥
 Exists s (Enqueue queue value) = queue < s.queues
 Exists s (Dequeue queue) = queue < s.queues
 Exists s (Front queue) = queue < s.queues

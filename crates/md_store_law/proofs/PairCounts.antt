@@ -1,6 +1,6 @@
 -- The pairs of a store: along a bucket their keys rise, and a key is of its bucket alone. So a map has as many keys as its
 -- buckets have pairs.
-use Rattle.std.proofs.Common.{◌≡◌, ◌≢◌, ℕ, zero, suc, ◌+◌, ◌<◌, ◌≤◌, ◌++◌, List, [], ◌∷◌, length, length-append, map as map_list, take, Some, None, refl, sym, ap, ◌∙◌, subst, inl, inr, ⊎_elim, arith}
+use Rattle.std.proofs.Common.{◌≡◌, ◌≢◌, ℕ, zero, suc, ◌+◌, ◌<◌, ◌≤◌, ◌++◌, List, [], ◌∷◌, length, length-append, map as map_list, take, Some, None, refl, sym, ap, ◌∙◌, subst, ⊎_elim, arith}
 use Rattle.std.specs.List.{flat_map, range_with_len, sum_by, AllByRecursion}
 use Rattle.std.specs.List.Sorted.{IsStrictlySortedBy}
 use Rattle.std.specs.Ordering.{nat_cmp}
@@ -25,7 +25,7 @@ use Rattle.md_list_law.specs.ListShape.{head_word, IsIn, Names, NamesAbove}
 use Rattle.md_list_law.proofs.Walks.{walk-none, walk-some}
 use Rattle.md_list_law.proofs.Keys.{find-here, find-further, none_unless}
 use Rattle.md_list_law.proofs.Chains.{Rises}
-use Rattle.md_list_law.proofs.ListKept.{above_less}
+use Rattle.md_list_law.proofs.Order.{above_onward, above_unmarked, onward_names}
 use Rattle.md_list_law.proofs.Pairs.{rises_of, found-pair}
 use Rattle.md_hash_law.specs.HashTable.{pairs_of_map}
 use Rattle.md_store_law.specs.Field.{logical_words, IsStoreField}
@@ -107,7 +107,7 @@ module _ (h : LogicalHeap) (list : Structure) (r : Rises h list) where
       (λ some.
       let node = linked_node value in
       let rest = walk h.words n (next_of h.words node) in
-      let onward = above n key (next_of h.words node) (above_less h list key (h.words.key_of node) (next_of h.words node) t.1 (r.rises node t.0)) in
+      let onward = above n key (next_of h.words node) (above_onward h list (h.words.key_of node) (next_of h.words node) key t.1 (r.rises node t.0)) in
       subst (λ nodes. AllByRecursion (λ y. nat_cmp key y ≡ Less) (keys_of (unmarked_pairs h.words nodes))) (sym (walk-some h.words n value some))
       (⊎_elim
       (λ marked. subst (λ ps. AllByRecursion (λ y. nat_cmp key y ≡ Less) (keys_of ps)) (sym (cond-true (is_marked (next_of h.words node)) _ _ marked)) onward)
@@ -125,12 +125,12 @@ module _ (h : LogicalHeap) (list : Structure) (r : Rises h list) where
       let node = linked_node value in
       let rest = walk h.words n (next_of h.words node) in
       let on = r.rises node (named value names some) in
-      let onward = rising n (next_of h.words node) (⊎_elim (λ e. inl e) (λ t. inr t.0) on) in
+      let onward = rising n (next_of h.words node) (onward_names h list _ _ on) in
       subst (λ nodes. IsStrictlySortedBy nat_cmp (keys_of (unmarked_pairs h.words nodes))) (sym (walk-some h.words n value some))
       (⊎_elim
       (λ marked. subst (λ (ps : List (ℕ × ℕ)). IsStrictlySortedBy nat_cmp (keys_of ps)) (sym (cond-true (is_marked (next_of h.words node)) _ _ marked)) onward)
       (λ plain. subst (λ (ps : List (ℕ × ℕ)). IsStrictlySortedBy nat_cmp (keys_of ps)) (sym (cond-false (is_marked (next_of h.words node)) _ _ plain))
-      (above n (h.words.key_of node) (next_of h.words node) on, onward))
+      (above n (h.words.key_of node) (next_of h.words node) (above_unmarked h list _ _ plain on), onward))
       (cases_Bool (is_marked (next_of h.words node)))))
       (cases_eq (linked_node value) 0)
 

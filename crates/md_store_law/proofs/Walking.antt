@@ -12,8 +12,7 @@ use Rattle.md_machine.specs.LogicalHeap.{LogicalHeap, next_of}
 use Rattle.md_list_law.specs.Walk.{walk, unmarked_pairs, pairs_from}
 use Rattle.md_list_law.specs.ListShape.{head_word, IsIn, Names}
 use Rattle.md_list_law.proofs.Walks.{walk-none, walk-some}
-use Rattle.md_list_law.proofs.Chains.{names_above}
-use Rattle.md_list_law.proofs.Pairs.{rises_of}
+use Rattle.md_list_law.proofs.Order.{onward_names}
 use Rattle.md_store_law.specs.Field.{logical_words, IsStoreWith, IsStoreField}
 
 -- a number of a bucket is its own bucket
@@ -65,7 +64,7 @@ module _ (shape : Shape) (words : List ℕ) where
         → Names (heap_with placed) (Bucket map bucket) (next_of (logical_words shape words) (linked_node value))
     onward now left value w some placed store =
         let list = (store.buckets map bucket m b).list in
-        names_above (heap_with placed) (Bucket map bucket) (rises_of (heap_with placed) (Bucket map bucket) (head_word shape map bucket) list) _ _
+        onward_names (heap_with placed) (Bucket map bucket) _ _
         (list.rises (linked_node value) (pairs_in now left value w some placed store))
 
     -- a step over a removed node, and one over any other

@@ -14,7 +14,7 @@ use Rattle.md_machine.specs.declared.node.Structure.TheVariants.{Bucket, Queue}
 use Rattle.md_machine.specs.LogicalHeap.{LogicalHeap, next_of}
 use Rattle.md_machine.proofs.lists.Options.{some_same}
 use Rattle.md_list_law.specs.Walk.{walk}
-use Rattle.md_list_law.specs.ListShape.{head_word, IsIn, IsBucket}
+use Rattle.md_list_law.specs.ListShape.{head_word, IsIn, IsBucket, NamesNone}
 use Rattle.md_list_law.proofs.Walks.{walk_first}
 use Rattle.md_queue_law.specs.QueueShape.{link, IsOf, head_of, tail_of, StandInLine, QueueShape}
 use Rattle.md_store_law.specs.Store.{IsStore}
@@ -126,6 +126,9 @@ module _ (shape : Shape) (n : HasNumbers shape 2 16 3 4 1 64 1) (words : List �
   no_next : next_of h.words 2 ≡ 0
   no_next = next_at 2 72 refl ∙ values_are.0
 
+  ends : (bucket node : ℕ) → IsIn h (Bucket 0 bucket) node → NamesNone (next_of h.words node)
+  ends bucket node i = let is = in_bucket 0 bucket node i in ap linked_node (ap (next_of h.words) is.0 ∙ no_next) ∙ links_are.2
+
   bucket_is : (bucket : ℕ) → bucket < 64 → IsBucket h 0 bucket
   unfolding bucket_of
   bucket_is bucket below = record {
@@ -140,7 +143,9 @@ module _ (shape : Shape) (n : HasNumbers shape 2 16 3 4 1 64 1) (words : List �
           ∙ ap (λ b. Some (Bucket 0 b)) (sym five)))
           (λ ne. inl (ap linked_node (head_at bucket below ∙ ap value_of (other_head bucket below ne) ∙ values_are.0) ∙ links_are.2))
           (cases_eq bucket 5);
-      rises = λ node i. let is = in_bucket 0 bucket node i in inl (ap linked_node (ap (next_of h.words) is.0 ∙ no_next) ∙ links_are.2);
+      rises = λ node i. inl (ends bucket node i);
+      rank = λ node. 0;
+      ranks = λ node i. inl (ends bucket node i);
       reached = λ node i plain. let is = in_bucket 0 bucket node i in let e = is.0 in
           let named : linked_node (h.words.value (head_word shape 0 bucket)) ≡ node =
           ap linked_node (head_at bucket below ∙ ap (λ b. value_of (row_word (1 + b))) is.2 ∙ values_are.1) ∙ links_are.3 ∙ sym is.0 in

@@ -16,6 +16,7 @@ use Rattle.md_machine.specs.LogicalHeap.{LogicalHeap, next_of}
 use Rattle.md_machine.proofs.lists.Options.{some_same}
 use Rattle.md_list_law.specs.Walk.{walk}
 use Rattle.md_list_law.specs.ListShape.{head_word, IsIn, IsBucket, Names, NamesAbove}
+use Rattle.md_list_law.proofs.Order.{after_above, onward_above}
 use Rattle.md_list_law.proofs.Walks.{walk_first, walk_later}
 use Rattle.md_queue_law.specs.QueueShape.{link, IsOf, StandInLine, QueueShape}
 use Rattle.md_store_law.specs.Store.{IsStore}
@@ -261,7 +262,10 @@ module _ (shape : Shape) (n : HasNumbers shape 2 16 3 4 1 64 1) (words : List �
       unmarked = head_is (λ v. is_marked v ≡ false) bucket below (λ e. refl) refl;
       first = head_is (Names h (Bucket 0 bucket)) bucket below (λ e. inr (ap (λ b. Some (Bucket 0 b)) (sym e))) (inl refl);
       rises = λ node i. let is = in_bucket 0 bucket node i in
-          subst (λ (b : ℕ). NamesAbove h (Bucket 0 b) (h.words.key_of node) (next_of h.words node)) (sym is.3) (rises node is.0 is.1);
+          onward_above h (Bucket 0 bucket) (h.words.key_of node) (next_of h.words node)
+          (subst (λ (b : ℕ). NamesAbove h (Bucket 0 b) (h.words.key_of node) (next_of h.words node)) (sym is.3) (rises node is.0 is.1));
+      rank = λ node. 0;
+      ranks = λ node i. let is = in_bucket 0 bucket node i in after_above h (λ n. 0) (Bucket 0 6) node (next_of h.words node) (rises node is.0 is.1);
       reached = λ node i plain. let is = in_bucket 0 bucket node i in
           subst (λ (most : ℕ). Contains (walk h.words most (h.words.value (head_word shape 0 bucket))) node) (sym (nodes_are shape n))
           (subst (λ (b : ℕ). Contains (walk h.words 35 (h.words.value (head_word shape 0 b))) node) (sym is.3) (reached node is.0 is.1 plain));

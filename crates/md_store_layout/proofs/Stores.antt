@@ -18,6 +18,7 @@ use Rattle.md_machine.specs.Resolution.{structure_in}
 use Rattle.md_machine.proofs.lists.Rising.{in_none, in_cons, here, there}
 use Rattle.md_list_law.specs.Walk.{pairs_from, unmarked_pairs}
 use Rattle.md_list_law.specs.ListShape.{head_word, IsIn, Names, NamesAbove, IsBucket}
+use Rattle.md_list_law.proofs.Order.{after_above, onward_above}
 use Rattle.md_hash_law.specs.HashTable.{IsBucketOf}
 use Rattle.md_queue_law.specs.QueueShape.{head_of, IsOf, NamesOneOf, StandInLine, QueueShape}
 use Rattle.md_queue_law.specs.QueueValues.{values_after, queue_values}
@@ -152,14 +153,19 @@ module _ (shape : Shape) (words : List ℕ) (nodes : List LaidNode) (pairs : ℕ
     pairs_here : map_list (pair_of w) (numbers_of nodes s) ≡ pairs map bucket
     pairs_here = entries s ∙ for.pairs_are map bucket m b
 
+    bucket_rises : (x : ℕ) → IsIn laid_heap s x → NamesAbove laid_heap s (w.key_of x) (next_of w x)
+    bucket_rises x e = rises s (w.value (head_word shape map bucket)) (numbers_of nodes s) (numbers_placed 1 nodes s) (linked s (m, b))
+        (subst (λ ps. IsStrictlySortedBy nat_cmp (keys_of ps)) (sym pairs_here) (sorted.rise map bucket m b)) x (placed_numbers 1 nodes s x e)
+
     bucket_is : IsBucket laid_heap map bucket
     bucket_is = record {
       list = record {
         nodes = is_node s;
         unmarked = linked_unmarked w (w.value (head_word shape map bucket)) (numbers_of nodes s) (linked s (m, b));
         first = names_first s (w.value (head_word shape map bucket)) (numbers_of nodes s) (numbers_placed 1 nodes s) (linked s (m, b));
-        rises = λ x e. rises s (w.value (head_word shape map bucket)) (numbers_of nodes s) (numbers_placed 1 nodes s) (linked s (m, b))
-            (subst (λ ps. IsStrictlySortedBy nat_cmp (keys_of ps)) (sym pairs_here) (sorted.rise map bucket m b)) x (placed_numbers 1 nodes s x e);
+        rises = λ x e. onward_above laid_heap s (w.key_of x) (next_of w x) (bucket_rises x e);
+        rank = λ x. 0;
+        ranks = λ x e. after_above laid_heap (λ y. 0) s x (next_of w x) (bucket_rises x e);
         reached = λ x e plain. subst (λ xs. Contains xs x)
             (sym (walk-linked w (node_count shape) (w.value (head_word shape map bucket)) (numbers_of nodes s) (short s) (above_none s) (linked s (m, b))))
             (placed_numbers 1 nodes s x e);

@@ -5,7 +5,7 @@ ghost use Rattle.md_words.specs.Place.{bucket_head, queue_head, queue_tail, node
 ghost use Rattle.md_words.specs.Place.{node_next, desc_status, read_word, read_content, slot_word};
 ghost use Rattle.md_words.specs.Place.{slot_old, slot_new};
 
-use crate::limits::{DESC_WORDS, FEW_BUCKETS, MANY_BUCKETS, SET};
+use crate::limits::{DESC_WORDS, FEW_BUCKETS, MANY_BUCKETS, MAX_BUCKETS, SET};
 use crate::shape::Shape;
 
 // A key's bucket. A remainder by a number that is known here takes a multiplication, and a division
@@ -17,6 +17,7 @@ fn bucket_of(key: u64, buckets: u32) -> u32
     match buckets {
         FEW_BUCKETS => (key % FEW_BUCKETS as u64) as u32,
         MANY_BUCKETS => (key % MANY_BUCKETS as u64) as u32,
+        MAX_BUCKETS => (key % MAX_BUCKETS as u64) as u32,
         _ => (key % buckets as u64) as u32,
     }
 }

@@ -21,9 +21,10 @@ pub const MAX_MAPS: u32 = 16;
 /// The most buckets of a map.
 pub const MAX_BUCKETS: u32 = 1_048_576;
 
-/// A number of buckets for few keys. For this number and for `MANY_BUCKETS`, the head of a key's
-/// bucket is found without a division. Keys that differ by multiples of 2^32 lie far apart by both:
-/// 2^32 leaves a fifth of this number, and half of the other.
+/// A number of buckets for few keys. For this number, for `MANY_BUCKETS` and for `MAX_BUCKETS`, the
+/// head of a key's bucket is found without a division. Keys that differ by multiples of 2^32 lie
+/// far apart by this number and by `MANY_BUCKETS`: 2^32 leaves a fifth of the one, and half of the
+/// other.
 pub const FEW_BUCKETS: u32 = 65_819;
 
 /// A number of buckets for many keys.

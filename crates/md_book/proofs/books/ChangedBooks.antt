@@ -41,6 +41,10 @@ module _ (b : Book) (name by : ℕ) where
   sum-le [] = omega arith
   sum-le (p ∷ ps) = omega (arith, sum_by-cons (λ (x : Order). x.left) (lessen name by p) (lessened ps name by), sum_by-cons (λ (x : Order). x.left) p ps, left-lessen-le name by p, sum-le ps)
 
+  -- no level has more depth
+  pub depth-with_less-le : (level : ℕ) → depth (with_less b name by) level ≤ depth b level
+  depth-with_less-le level = omega (arith, ap (sum_by (λ (x : Order). x.left)) (orders_at-with_less level), sum-le (orders_at b level))
+
   pub sound-with_less : IsSound b → IsSound (with_less b name by)
   sound-with_less sound = record {
     distinct = subst (IsDistinct nat_eq) (sym (lessened-map name by (λ p. p.name) (λ _ _. refl) b.orders)) sound.distinct;

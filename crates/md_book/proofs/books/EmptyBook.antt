@@ -14,7 +14,7 @@ none_distinct : IsDistinct nat_eq []
 unfolding IsDistinct
 none_distinct = tt
 
-empty-sound : IsSound empty_book
+pub empty-sound : IsSound empty_book
 empty-sound = record {
   distinct = none_distinct;
   few = omega arith;

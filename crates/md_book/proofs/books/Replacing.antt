@@ -12,7 +12,7 @@ use Rattle.md_history.specs.Script.{done, call}
 use Rattle.md_history.proofs.Plays.{made}
 use Rattle.md_book.specs.Scripts.{put}
 use Rattle.md_book.proofs.books.Changes.{remove-sets}
-use Rattle.md_book.proofs.steps.Costs.{Costs, costs-append, costs-more, costs-absent, costs-new, costs-removed, costs-replaced}
+use Rattle.md_book.proofs.steps.Costs.{Costs, costs-more, costs-absent, costs-added, costs-removed, costs-replaced}
 
 put-made : (s : State) (m k v : ℕ) → fin.get (map_at s m) k ≡ None → made (put m k v) s ≡ cond (v == 0) [] (act_of (Insert m k v) (Flag true) ∷ [])
 put-made s m k v absent =
@@ -30,10 +30,10 @@ module _ (level m k : ℕ) where
   some-costs x true v = costs-more (costs-removed level m k x) 0 3 1 (omega arith) (omega arith) (omega arith)
   some-costs x false v = costs-replaced level m k x v
 
-  any-costs : (o : Option ℕ) (gone : Bool) (v : ℕ) → Costs level (replacing m k o gone v) 1 4 1
-  any-costs None true v = costs-more (costs-absent level m k) 1 4 1 (omega arith) (omega arith) (omega arith)
-  any-costs None false v = costs-append (costs-absent level m k) (costs-new level m k v)
-  any-costs (Some x) gone v = costs-more (some-costs x gone v) 1 4 1 (omega arith) (omega arith) (omega arith)
+  any-costs : (o : Option ℕ) (gone : Bool) (v : ℕ) → Costs level (replacing m k o gone v) 1 3 1
+  any-costs None true v = costs-more (costs-absent level m k) 1 3 1 (omega arith) (omega arith) (omega arith)
+  any-costs None false v = costs-added level m k v
+  any-costs (Some x) gone v = costs-more (some-costs x gone v) 1 3 1 (omega arith) (omega arith) (omega arith)
 
   module _ (s : State) (below : m < length s.maps) (v : Reply → ℕ) where
     abbrev stood : Option ℕ
@@ -42,8 +42,8 @@ module _ (level m k : ℕ) where
     replace-made : made (call (Remove m k) (λ r. put m k (v r))) s ≡ replacing m k stood (v (Value stood) == 0) (v (Value stood))
     replace-made = ap (λ xs. act_of (Remove m k) (Value stood) ∷ xs) (put-made (after s (Remove m k)) m k (v (Value stood)) (remove-sets s m k below).here)
 
-    pub replace-costs : Costs level (made (call (Remove m k) (λ r. put m k (v r))) s) 1 4 1
-    replace-costs = subst (λ xs. Costs level xs 1 4 1) (sym replace-made) (any-costs stood (v (Value stood) == 0) (v (Value stood)))
+    pub replace-costs : Costs level (made (call (Remove m k) (λ r. put m k (v r))) s) 1 3 1
+    replace-costs = subst (λ xs. Costs level xs 1 3 1) (sym replace-made) (any-costs stood (v (Value stood) == 0) (v (Value stood)))
 
     -- where the key has a value
     pub replace-costs_some : (x : ℕ) → fin.get (map_at s m) k ≡ Some x → Costs level (made (call (Remove m k) (λ r. put m k (v r))) s) 0 3 1

@@ -1,5 +1,5 @@
 -- What is taken from the order at a level's front.
-use Rattle.std.proofs.Common.{◌≡◌, ℕ, ◌+◌, ◌-◌, ◌*◌, ◌^◌, ◌<◌, ◌≤◌, ◌==◌, min, Bool, true, false, List, ◌++◌, length, refl, ap, subst, ◌∙◌, Some, arith}
+use Rattle.std.proofs.Common.{◌≡◌, ℕ, ◌+◌, ◌-◌, ◌*◌, ◌^◌, ◌<◌, ◌≤◌, ◌==◌, min, Bool, true, false, List, ◌∷◌, ◌++◌, length, refl, ap, subst, ◌∙◌, Some, arith}
 use Rattle.std.specs.Prelude.{if◌then◌else◌, sum_by}
 use Rattle.std.proofs.lemmas.List.{length-map}
 use Rattle.md_history.specs.declared.acts.Act.{Act}
@@ -22,7 +22,7 @@ use Rattle.md_book.proofs.books.Unpacking.{side-level}
 use Rattle.md_book.proofs.books.ChangedBooks.{with_less, left-with_less, with_trade, sound-with_trade}
 use Rattle.md_book.proofs.sums.SideSums.{resting_sum, resting_sum-le, sums-low, traded-room}
 use Rattle.md_book.proofs.books.Reflects.{Reflects, reflects-trade}
-use Rattle.md_book.proofs.steps.TakingOut.{unless, IsOut, packed_order, take_out, front-in_range, taken_out}
+use Rattle.md_book.proofs.steps.TakingOut.{unless, IsOut, look_up, packed_order, take_out, front-in_range, taken_out}
 
 -- so much was taken from an order
 pub record IsLive (b : Book) (level : ℕ) (side : Side) (depths takers : ℕ → ℕ) (taker : ℕ) (o : Order) (taken read write take : ℕ) (t : State) (look : Look) (acts : List Act) : Type 0 where
@@ -71,7 +71,7 @@ module _ (side : Side) (price : ℕ) (priced : IsPrice price) (taker : ℕ) (tak
       out-traded false = refl
 
       -- the trade is added where the resting account's sum grows
-      module _ (emptied : Bool) (same : emptied ≡ (o.left == taken)) (t : State) (acts : List Act) (is : IsOut less level side depths takers emptied t acts) where
+      module _ (emptied : Bool) (same : emptied ≡ (o.left == taken)) (t : State) (acts : List Act) (is : IsOut less level o side depths takers emptied t acts) where
         abbrev now : Book
         now = out emptied
 
@@ -97,20 +97,20 @@ module _ (side : Side) (price : ℕ) (priced : IsPrice price) (taker : ℕ) (tak
             (raise-sets t (resting_sums side) o.account (resting_sum side now o.account) taken below_maps (is.reflects.resting o.account)
             (omega (arith, resting_sum-le now o.account side, traded-room now is.reflects.sound, in_range.left)))
 
-        raises : IsLive b level side depths takers taker o taken 2 (6 + unless (o.left == taken)) (1 + unless (o.left == taken)) (played (then_raise side o taken o.account) t) (outcome (then_raise side o taken o.account) t) (acts ++ made (then_raise side o taken o.account) t)
+        raises : IsLive b level side depths takers taker o taken 3 (5 + unless (o.left == taken)) (1 + unless (o.left == taken)) (played (then_raise side o taken o.account) t) (outcome (then_raise side o taken o.account) t) (look_up o ∷ acts ++ made (then_raise side o taken o.account) t)
         raises =
             ends-bind (raise (resting_sums side) o.account taken) (λ _. done (Live (record { name = o.name; taken = taken }))) t
-            (λ u look xs. IsLive b level side depths takers taker o taken 2 (6 + unless (o.left == taken)) (1 + unless (o.left == taken)) u look (acts ++ xs))
+            (λ u look xs. IsLive b level side depths takers taker o taken 3 (5 + unless (o.left == taken)) (1 + unless (o.left == taken)) u look (look_up o ∷ acts ++ xs))
             (record {
               look_is = refl;
               reflects = subst (λ x. Reflects (played (raise (resting_sums side) o.account taken) t) x side depths takers) (out-traded emptied ∙ ap (λ e. if e then pass (trade b o taker taken) level else trade b o taker taken) same) raised;
               costs = costs-more (costs-append is.costs (costs-append (replace-costs level (resting_sums side) o.account t below_maps (λ v. min (value_or_0 v + taken) (2 ^ 64 - 1))) (costs-none level)))
-                  2 (6 + unless (o.left == taken)) (1 + unless (o.left == taken)) (omega arith) (omega (arith, ap unless same)) (omega (arith, ap unless same));
+                  3 (5 + unless (o.left == taken)) (1 + unless (o.left == taken)) (omega arith) (omega (arith, ap unless same)) (omega (arith, ap unless same));
             })
 
-      pub takes_live : IsLive b level side depths takers taker o taken 2 (6 + unless (o.left == taken)) (1 + unless (o.left == taken))
-          (played (taking side level o taken (o.left == taken) o.account) s) (outcome (taking side level o taken (o.left == taken) o.account) s) (made (taking side level o taken (o.left == taken) o.account) s)
+      pub takes_live : IsLive b level side depths takers taker o taken 3 (5 + unless (o.left == taken)) (1 + unless (o.left == taken))
+          (played (taking side level o taken (o.left == taken) o.account) s) (outcome (taking side level o taken (o.left == taken) o.account) s) (look_up o ∷ made (taking side level o taken (o.left == taken) o.account) s)
       takes_live =
           ends-bind (take_out level o taken (o.left == taken)) (λ _. then_raise side o taken o.account) s
-          (IsLive b level side depths takers taker o taken 2 (6 + unless (o.left == taken)) (1 + unless (o.left == taken)))
+          (λ t look acts. IsLive b level side depths takers taker o taken 3 (5 + unless (o.left == taken)) (1 + unless (o.left == taken)) t look (look_up o ∷ acts))
           (raises (o.left == taken) refl _ _ (taken_out r level below o front live taken within))

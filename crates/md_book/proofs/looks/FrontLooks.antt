@@ -59,7 +59,7 @@ module _ (side : Side) (price : ℕ) (priced : IsPrice price) (taker : ℕ) (tak
   abbrev pub LooksAtOrder : Order → State → Look → List Act → Type 0
   LooksAtOrder o t look acts =
       IsDead b level side depths takers o t look acts
-      ⊎ ((0 < o.left) × IsLive b level side depths takers taker o (min o.left rest) 3 (7 + unless (o.left == min o.left rest)) (1 + unless (o.left == min o.left rest)) t look acts)
+      ⊎ ((0 < o.left) × IsLive b level side depths takers taker o (min o.left rest) 3 (5 + unless (o.left == min o.left rest)) (1 + unless (o.left == min o.left rest)) t look acts)
 
   -- what a look is, by the order at the front
   abbrev pub LooksAt : Option Order → State → Look → List Act → Type 0
@@ -84,7 +84,7 @@ module _ (side : Side) (price : ℕ) (priced : IsPrice price) (taker : ℕ) (tak
     }
 
     abbrev Lives : State → Look → List Act → Type 0
-    Lives t look acts = IsLive b level side depths takers taker o (min o.left rest) 3 (7 + unless (o.left == min o.left rest)) (1 + unless (o.left == min o.left rest)) t look acts
+    Lives t look acts = IsLive b level side depths takers taker o (min o.left rest) 3 (5 + unless (o.left == min o.left rest)) (1 + unless (o.left == min o.left rest)) t look acts
 
     takes_at : (live : 0 < o.left) → Lives (played (at_order side level rest o.name (Some (packed_order o))) s) (outcome (at_order side level rest o.name (Some (packed_order o))) s) (so_far (Some (packed_order o)) (made (at_order side level rest o.name (Some (packed_order o))) s))
     takes_at live =
@@ -97,7 +97,7 @@ module _ (side : Side) (price : ℕ) (priced : IsPrice price) (taker : ℕ) (tak
         (record {
           look_is = taken.look_is;
           reflects = taken.reflects;
-          costs = costs-more (costs-append (costs-front level (Some o.name)) (costs-append (costs-get level OPEN_ORDERS o.name (Some (packed_order o))) taken.costs)) 3 (7 + unless (o.left == min o.left rest)) (1 + unless (o.left == min o.left rest)) (omega arith) (omega arith) (omega arith);
+          costs = costs-more (costs-append (costs-front level (Some o.name)) taken.costs) 3 (5 + unless (o.left == min o.left rest)) (1 + unless (o.left == min o.left rest)) (omega arith) (omega arith) (omega arith);
         }))
 
     some_looks : LooksAtOrder o (played (at_name side level rest (Some o.name)) s) (outcome (at_name side level rest (Some o.name)) s) (act_of (Front level) (Value (Some o.name)) ∷ made (at_name side level rest (Some o.name)) s)

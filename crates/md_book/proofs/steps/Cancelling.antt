@@ -39,10 +39,11 @@ abbrev found : ℕ → Script BookReply
 found order = book_cancelled (level_in order) (left_in order)
 
 module _ (s : State) (b : Book) (name : ℕ) (room : HasMapsAndQueues s) (shows : Shows s b) where
-  abbrev removed : State
+  abbrev pub removed : State
   removed = after s (Remove OPEN_ORDERS name)
 
-  gone : Sets s removed OPEN_ORDERS name None
+  -- the order is removed from the open ones
+  pub gone : Sets s removed OPEN_ORDERS name None
   gone = remove-sets s OPEN_ORDERS name (omega (arith, room.maps))
 
   -- the step where the order of the name was such, or none
@@ -62,7 +63,7 @@ module _ (s : State) (b : Book) (name : ℕ) (room : HasMapsAndQueues s) (shows 
     abbrev level : ℕ
     level = level_of o.side o.price
 
-    abbrev less : Book
+    abbrev pub less : Book
     less = with_less b o.name o.left
 
     has : Has b.orders o
@@ -71,10 +72,12 @@ module _ (s : State) (b : Book) (name : ℕ) (room : HasMapsAndQueues s) (shows 
     named : o.name ≡ name
     named = eqb-true o.name name (and_parts (o.name == name) (nat_lt 0 o.left) (find-has (is_open name) b.orders o is).1).0
 
-    in_range : IsInRange o
+    -- the order that is found is in range
+    pub in_range : IsInRange o
     in_range = All-has IsInRange b.orders o (recursion_from_All IsInRange b.orders shows.sound.in_range) has
 
-    lessened_reflects : Reflects removed less Buy (depth b) (sold b)
+    -- the maps and queues are those of the book without it, but for the depth
+    pub lessened_reflects : Reflects removed less Buy (depth b) (sold b)
     lessened_reflects =
         let none : None ≡ open_order less o.name = sym (open_order-with_less b o o.left shows.sound has (omega arith) ∙ ap (λ t. cond t (Some (packed o.account o.side o.price (o.left - o.left))) None) (le-ltb 0 (o.left - o.left) (omega arith))) in
         reflects-less (shows-reflects s b room shows Buy) removed o.name o.left (subst (Sets s removed OPEN_ORDERS o.name) none (subst (λ n. Sets s removed OPEN_ORDERS n None) (sym named) gone))
@@ -82,10 +85,12 @@ module _ (s : State) (b : Book) (name : ℕ) (room : HasMapsAndQueues s) (shows 
     abbrev lowered : State
     lowered = played (lower DEPTHS level o.left) removed
 
-    depth_here : depth less level + o.left ≡ depth b level
+    -- its level has so much less
+    pub depth_here : depth less level + o.left ≡ depth b level
     depth_here = ap (λ t. depth less level + cond t o.left 0) (sym (eq-eqb level level refl)) ∙ depth-with_less b o o.left shows.sound has (omega arith) level
 
-    depth_other : (at : ℕ) → at ≢ level → depth b at ≡ depth less at
+    -- and other levels have what they had
+    pub depth_other : (at : ℕ) → at ≢ level → depth b at ≡ depth less at
     depth_other at h = omega (arith, depth-with_less b o o.left shows.sound has (omega arith) at, ap (λ t. cond t o.left 0) (ne_eqb level at (λ e. h (sym e))))
 
     depth_lowered : Sets removed lowered DEPTHS level (unless_0 (depth less level))

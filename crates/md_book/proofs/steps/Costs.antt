@@ -8,10 +8,14 @@ use Rattle.md_history.specs.declared.acts.Line.{Line as Values}
 use Rattle.md_history.specs.declared.acts.Op.TheVariants.{Get, Insert, Remove, Enqueue, Dequeue, Front, Line}
 use Rattle.md_history.specs.declared.acts.Reply.TheVariants.{Value, Flag, Nothing, Line as TheLine}
 use Rattle.md_history.specs.Act.{act_of}
-use Rattle.md_history.specs.Counts.{different_beside, different, same_key, changed_nothing, changed_key, asked_queue, changed_queue, dequeued, line_words, reads, writes, nodes, AreFew}
+use Rattle.md_history.specs.Counts.{different_beside, different, same_key, named_key, changed_nothing, changed_key, asked_queue, changed_queue, dequeued, line_words, reads, writes, nodes, AreFew}
 use Rattle.md_history.specs.CountLaws.{count-append, different-append, same_key_equiv, nodes-append, line_words-append}
 use Rattle.md_book.specs.declared.limits.TheConstants.{COMMAND_READS, COMMAND_WRITES, COMMAND_NODES}
 use Rattle.md_book.specs.Meets.{command_bounds}
+
+-- the different keys of maps that acts name, and those that they change
+abbrev names : List Act → ℕ
+names acts = different same_key (filter_map (λ a. named_key a.op) acts)
 
 abbrev keys : List Act → ℕ
 keys acts = different same_key (filter_map (λ a. changed_key a.op a.reply) acts)
@@ -30,7 +34,7 @@ AreThis level qs = AllByRecursion (λ q. q ≡ level) qs
 
 pub record Costs (level : ℕ) (acts : List Act) (read write take : ℕ) : Type 0 where
   pub read_few : lookups acts + dequeues acts + line_reads acts ≤ read
-  pub write_few : 2 * keys acts + lookups acts + nodes acts ≤ write
+  pub write_few : names acts + keys acts + nodes acts ≤ write
   pub take_few : nodes acts ≤ take
   pub asked : AreThis level (filter_map (λ a. asked_queue a.op a.reply) acts)
   pub changed : AreThis level (filter_map (λ a. changed_queue a.op a.reply) acts)
@@ -73,13 +77,15 @@ pub costs-append : {level : ℕ} {xs ys : List Act} {r w n r' w' n' : ℕ} → C
 costs-append {level} {xs} {ys} f g =
     let nothing_all = count-append (λ (a : Act). changed_nothing a.op a.reply) xs ys in
     let dequeued_all = count-append (λ (a : Act). dequeued a.op a.reply) xs ys in
+    let names_all = filter_map-append (λ (a : Act). named_key a.op) xs ys in
     let keys_all = filter_map-append (λ (a : Act). changed_key a.op a.reply) xs ys in
     let asked_all = filter_map-append (λ (a : Act). asked_queue a.op a.reply) xs ys in
     let changed_all = filter_map-append (λ (a : Act). changed_queue a.op a.reply) xs ys in
+    let different_names = different-append same_key_equiv (filter_map (λ (a : Act). named_key a.op) xs) (filter_map (λ (a : Act). named_key a.op) ys) [] in
     let different_all = different-append same_key_equiv (filter_map (λ (a : Act). changed_key a.op a.reply) xs) (filter_map (λ (a : Act). changed_key a.op a.reply) ys) [] in
     record {
       read_few = omega (arith, f.read_few, g.read_few, nothing_all, dequeued_all, line_words-append xs ys);
-      write_few = omega (arith, f.write_few, g.write_few, nothing_all, nodes-append xs ys, ap (different same_key) keys_all, different_all);
+      write_few = omega (arith, f.write_few, g.write_few, nodes-append xs ys, ap (different same_key) names_all, different_names, ap (different same_key) keys_all, different_all);
       take_few = omega (arith, f.take_few, g.take_few, nodes-append xs ys);
       asked = subst (AreThis level) (sym asked_all) (these-append level _ _ f.asked g.asked);
       changed = subst (AreThis level) (sym changed_all) (these-append level _ _ f.changed g.changed);
@@ -119,8 +125,28 @@ module _ (level : ℕ) where
   pub costs-removed : (m k x : ℕ) → Costs level (act_of (Remove m k) (Value (Some x)) ∷ []) 0 2 0
   costs-removed m k x = record { read_few = omega arith; write_few = omega arith; take_few = omega arith; asked = tt; changed = tt }
 
-  -- a pair is removed, and its key inserted again, which is one key
-  pub costs-replaced : (m k x v : ℕ) → Costs level (act_of (Remove m k) (Value (Some x)) ∷ act_of (Insert m k v) (Flag true) ∷ []) 0 3 1
-  costs-replaced m k x v =
-      let once : different same_key ((m, k) ∷ (m, k) ∷ []) ≡ 1 = ap (λ b. 1 + cond ((b && (k == k)) || false) 0 1) (eq-eqb m m refl) ∙ ap (λ b. 1 + cond (b || false) 0 1) (eq-eqb k k refl) in
-      record { read_few = omega arith; write_few = omega (arith, once); take_few = omega arith; asked = tt; changed = tt }
+  -- a key that is named twice is one key
+  module _ (m k : ℕ) where
+    once : different same_key ((m, k) ∷ (m, k) ∷ []) ≡ 1
+    once = ap (λ b. 1 + cond ((b && (k == k)) || false) 0 1) (eq-eqb m m refl) ∙ ap (λ b. 1 + cond (b || false) 0 1) (eq-eqb k k refl)
+
+    -- a third time, too
+    again : different same_key ((m, k) ∷ (m, k) ∷ (m, k) ∷ []) ≡ 1
+    again =
+        ap (λ b. 1 + cond (b || false) (cond (b || false) 0 1) (1 + cond (b || (b || false)) 0 1)) (ap (λ b. b && (k == k)) (eq-eqb m m refl) ∙ eq-eqb k k refl)
+
+    -- a pair is removed, and its key inserted again
+    pub costs-replaced : (x v : ℕ) → Costs level (act_of (Remove m k) (Value (Some x)) ∷ act_of (Insert m k v) (Flag true) ∷ []) 0 3 1
+    costs-replaced x v = record { read_few = omega arith; write_few = omega (arith, once); take_few = omega arith; asked = tt; changed = tt }
+
+    -- a key that is absent is removed, and inserted
+    pub costs-added : (v : ℕ) → Costs level (act_of (Remove m k) (Value None) ∷ act_of (Insert m k v) (Flag true) ∷ []) 1 3 1
+    costs-added v = record { read_few = omega arith; write_few = omega (arith, once); take_few = omega arith; asked = tt; changed = tt }
+
+    -- a pair is looked up and removed
+    pub costs-taken : (x y : ℕ) → Costs level (act_of (Get m k) (Value (Some x)) ∷ act_of (Remove m k) (Value (Some y)) ∷ []) 1 2 0
+    costs-taken x y = record { read_few = omega arith; write_few = omega (arith, once); take_few = omega arith; asked = tt; changed = tt }
+
+    -- and its key is inserted again
+    pub costs-put_back : (x y v : ℕ) → Costs level (act_of (Get m k) (Value (Some x)) ∷ act_of (Remove m k) (Value (Some y)) ∷ act_of (Insert m k v) (Flag true) ∷ []) 1 3 1
+    costs-put_back x y v = record { read_few = omega arith; write_few = omega (arith, once, again); take_few = omega arith; asked = tt; changed = tt }

@@ -36,7 +36,7 @@ use Rattle.md_book.proofs.steps.Stepping.{MakesStep}
 -- depths and takers' sums have caught up
 pub record Booked (level : ℕ) (b : Book) (t : State) (acts : List Act) : Type 0 where
   pub shows : Shows t b
-  pub costs : Costs level acts 1 7 2
+  pub costs : Costs level acts 1 6 2
 
 module _ (side : Side) (level taker : ℕ) {depths takers : ℕ → ℕ} {s : State} {b : Book} (r : Reflects s b side depths takers) (taken : ℕ) (lags : Lags side level taker depths takers b taken) where
   at-own : (own : ℕ) → at_account own own taken ≡ taken
@@ -50,7 +50,7 @@ module _ (side : Side) (level taker : ℕ) {depths takers : ℕ → ℕ} {s : St
       let nothing : (own at : ℕ) → at_account own at taken ≡ 0 = λ own at. elim (own == at) as (λ t. cond t taken 0 ≡ 0) [ true ↦ none | false ↦ refl ] in
       record {
         shows = reflects-shows s b depths takers side r (λ at. omega (arith, lags.depths_lag at, nothing level at)) (λ account. omega (arith, lags.takers_lag account, nothing taker account));
-        costs = costs-more (costs-none level) 1 7 2 (omega arith) (omega arith) (omega arith);
+        costs = costs-more (costs-none level) 1 6 2 (omega arith) (omega arith) (omega arith);
       }
 
   module _ (some : taken ≢ 0) where
@@ -104,8 +104,8 @@ module _ (side : Side) (level taker : ℕ) {depths takers : ℕ → ℕ} {s : St
 pub record IsFilled (level places : ℕ) (l : Looked) (t : State) (r : BookReply) (acts : List Act) : Type 0 where
   pub replied : r ≡ (looked_step l).reply
   pub shows : Shows t l.book
-  pub costs : Costs level acts (3 * places + 1) (7 * places + 8) (places + 3)
-  pub by_places : PlaceCosts level acts 1 8 3
+  pub costs : Costs level acts (3 * places + 1) (5 * places + 7) (places + 3)
+  pub by_places : PlaceCosts level acts 1 7 3
 
 module _ (s : State) (b : Book) (room : HasMapsAndQueues s) (shows : Shows s b) (account : ℕ) (side : Side) (price quantity places : ℕ) (is : IsOffer account price quantity) (low : places ≤ MAX_PARTS) where
   abbrev level : ℕ
@@ -147,8 +147,8 @@ module _ (s : State) (b : Book) (room : HasMapsAndQueues s) (shows : Shows s b) 
         (record {
           replied = replies;
           shows = books.shows;
-          costs = costs-more (costs-append took_it.costs (costs-append books.costs (costs-none level))) (3 * places + 1) (7 * places + 8) (places + 3) (omega arith) (omega arith) (omega arith);
-          by_places = place-costs-append 0 1 1 1 7 2 took_it.by_places (place-costs (costs-append books.costs (costs-none level)));
+          costs = costs-more (costs-append took_it.costs (costs-append books.costs (costs-none level))) (3 * places + 1) (5 * places + 7) (places + 3) (omega arith) (omega arith) (omega arith);
+          by_places = place-costs-append 0 1 1 1 6 2 took_it.by_places (place-costs (costs-append books.costs (costs-none level)));
         })
 
   pub fills : IsFilled level places looked (played (fill account side price quantity places) s) (outcome (fill account side price quantity places) s) (made (fill account side price quantity places) s)

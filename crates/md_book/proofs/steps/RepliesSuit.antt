@@ -17,11 +17,11 @@ use Rattle.md_book.proofs.sums.LookSums.{look-rest, look-All, look-parts}
 use Rattle.md_book.proofs.steps.Kills.{kill-either}
 
 -- what is known of the orders of a book
-abbrev Fits : Order → Type 0
+abbrev pub Fits : Order → Type 0
 Fits o = IsName o.name × (o.left ≤ MAX_QUANTITY)
 
 -- an order that has less left fits too
-fits-less : (o : Order) (left : ℕ) → left ≤ o.left → Fits o → Fits (record o { left = left })
+pub fits-less : (o : Order) (left : ℕ) → left ≤ o.left → Fits o → Fits (record o { left = left })
 fits-less o left less is = (is.0, omega (arith, less, is.1))
 
 module _ (level taker : ℕ) where
@@ -36,7 +36,7 @@ module _ (level taker : ℕ) where
         | false ↦ omega (arith, few (traded b level o taker taken) (rest - taken))
       ]
 
-  look-few : (places : ℕ) (b : Book) (rest : ℕ) → length (look level taker places b rest).parts ≤ places
+  pub look-few : (places : ℕ) (b : Book) (rest : ℕ) → length (look level taker places b rest).parts ≤ places
   unfolding look
   look-few zero b rest = omega arith
   look-few (suc places) b rest = elim (rest == 0) as (λ t. length (cond t (ended b rest) (look_at (front_order b level) level taker b rest (look level taker places))).parts ≤ suc places) [
@@ -67,23 +67,28 @@ module _ (level taker : ℕ) where
   both quantity low [] names some = tt
   both quantity low (p ∷ parts) names some = (record { named = names.0; low = some.0.0; high = omega (arith, low, some.0.1) }, both quantity low parts names.1 some.1)
 
+  -- orders that fit have names
+  only-names : (os : List Order) → AllByRecursion Fits os → AllByRecursion (λ o. IsName o.name) os
+  only-names [] all = tt
+  only-names (o ∷ os) all = (all.0.0, only-names os all.1)
+
+  -- what is taken from orders that fit are parts of orders
+  pub look-each : (b : Book) (quantity places : ℕ) → quantity ≤ MAX_QUANTITY → All Fits b.orders → AllByRecursion IsPart (look level taker places b quantity).parts
+  look-each b quantity places low fit =
+      both quantity low (look level taker places b quantity).parts (look-parts level taker (λ name _. IsName name) places b quantity (only-names b.orders (recursion_from_All Fits b.orders fit))) (look-some places b quantity)
+
   -- a fill answers what was taken
   pub fill-suits : (b : Book) (quantity places : ℕ) → quantity ≤ MAX_QUANTITY → All Fits b.orders → IsTaken quantity places (fill_step b taker level quantity places).reply
   fill-suits b quantity places low fit =
       let l = look level taker places b quantity in
-      let names = look-parts level taker (λ name _. IsName name) places b quantity (only-names b.orders (recursion_from_All Fits b.orders fit)) in
       record {
         parts = l.parts;
         rest = l.rest;
         is = refl;
         few = look-few places b quantity;
-        each = All-from_recursion IsPart l.parts (both quantity low l.parts names (look-some places b quantity));
+        each = All-from_recursion IsPart l.parts (look-each b quantity places low fit);
         adds_up = look-rest level taker places b quantity;
       }
-    where
-      only-names : (os : List Order) → AllByRecursion Fits os → AllByRecursion (λ o. IsName o.name) os
-      only-names [] all = tt
-      only-names (o ∷ os) all = (all.0.0, only-names os all.1)
 
 module _ (b : Book) (fit : All Fits b.orders) where
   -- each reply suits

@@ -6,7 +6,7 @@ use Rattle.std.specs.FinMap as fin
 use Rattle.std.proofs.lemmas.Bool.{eqb-true, eqb-false, lt-ltb, le-ltb}
 use Rattle.std.proofs.lemmas.List.Elements.{recursion_from_All}
 use Rattle.md_history.specs.declared.acts.Act.{Act}
-use Rattle.md_history.specs.declared.acts.Op.TheVariants.{Insert, Remove, Dequeue}
+use Rattle.md_history.specs.declared.acts.Op.TheVariants.{Get, Insert, Remove, Dequeue}
 use Rattle.md_history.specs.declared.acts.Reply.TheVariants.{Value, Flag}
 use Rattle.md_history.specs.Act.{act_of}
 use Rattle.md_history.specs.State.{State, map_at, queue_at, after}
@@ -17,7 +17,7 @@ use Rattle.md_book.specs.declared.maps.TheConstants.{LEVELS, OPEN_ORDERS}
 use Rattle.md_book.specs.Book.{Order, Book, front_order, pass}
 use Rattle.md_book.specs.Stands.{packed, open_order, IsInRange}
 use Rattle.md_book.proofs.books.Changes.{Sets, remove-sets, insert-sets, sets-again, dequeue-lines}
-use Rattle.md_book.proofs.steps.Costs.{Costs, costs-append, costs-more, costs-removed, costs-dequeue, costs-replaced}
+use Rattle.md_book.proofs.steps.Costs.{Costs, costs-append, costs-more, costs-dequeue, costs-put_back, costs-taken}
 use Rattle.md_book.proofs.books.Lessened.{Has, All-has}
 use Rattle.md_book.proofs.sums.LookSums.{front-has}
 use Rattle.md_book.proofs.books.ChangedBooks.{with_less, open_order-with_less, open_order-own, front-with_less, sound-pass}
@@ -28,14 +28,19 @@ use Rattle.md_book.proofs.books.Reflects.{Reflects, reflects-front, reflects-les
 abbrev pub unless : Bool → ℕ
 unless emptied = if emptied then 0 else 1
 
--- a state and acts are those of the book with the order lessened, and its place passed where it is emptied
-pub record IsOut (less : Book) (level : ℕ) (side : Side) (depths takers : ℕ → ℕ) (emptied : Bool) (t : State) (acts : List Act) : Type 0 where
-  pub reflects : Reflects t (if emptied then pass less level else less) side depths takers
-  pub costs : Costs level acts 1 (2 + unless emptied) (unless emptied)
-
 -- an order's packed number
 abbrev pub packed_order : Order → ℕ
 packed_order o = packed o.account o.side o.price o.left
+
+-- the look-up of an order that is open
+abbrev pub look_up : Order → Act
+look_up o = act_of (Get OPEN_ORDERS o.name) (Value (Some (packed_order o)))
+
+-- a state and acts, which follow the look-up of an order, are those of the book with it lessened, and its place passed
+-- where it is emptied
+pub record IsOut (less : Book) (level : ℕ) (o : Order) (side : Side) (depths takers : ℕ → ℕ) (emptied : Bool) (t : State) (acts : List Act) : Type 0 where
+  pub reflects : Reflects t (if emptied then pass less level else less) side depths takers
+  pub costs : Costs level (look_up o ∷ acts) 2 (2 + unless emptied) (unless emptied)
 
 -- what is done with the order at a level's front
 abbrev pub put_out : ℕ → Order → ℕ → Bool → Script (Unit {0})
@@ -65,7 +70,7 @@ module _ {s : State} {b : Book} {side : Side} {depths takers : ℕ → ℕ} (r :
     abbrev less : Book
     less = with_less b o.name taken
 
-    emptied_out : o.left ≡ taken → IsOut less level side depths takers true (played (take_out level o taken true) s) (made (take_out level o taken true) s)
+    emptied_out : o.left ≡ taken → IsOut less level o side depths takers true (played (take_out level o taken true) s) (made (take_out level o taken true) s)
     emptied_out same =
         let none : open_order less o.name ≡ None = open_order-with_less b o taken r.sound has within ∙ ap (λ t. cond t (Some (packed o.account o.side o.price (o.left - taken))) None) (le-ltb 0 (o.left - taken) (omega arith)) in
         let without = reflects-less r removed o.name taken (subst (Sets s removed OPEN_ORDERS o.name) (sym none) gone) in
@@ -74,12 +79,12 @@ module _ {s : State} {b : Book} {side : Side} {depths takers : ℕ → ℕ} (r :
         let first : slice_get (queue_at removed level) 0 ≡ Some o.name = reflects-front without level below ∙ ap (option_map (λ p. p.name)) still in
         record {
           reflects = reflects-pass without (after removed (Dequeue level)) level sound (dequeue-lines removed level (omega (arith, below, without.queues)));
-          costs = subst (λ v. Costs level (act_of (Remove OPEN_ORDERS o.name) (Value v) ∷ act_of (Dequeue level) (Value (slice_get (queue_at removed level) 0)) ∷ []) 1 2 0) (sym front-stood)
-              (subst (λ v. Costs level (act_of (Remove OPEN_ORDERS o.name) (Value (Some (packed_order o))) ∷ act_of (Dequeue level) (Value v) ∷ []) 1 2 0) (sym first)
-              (costs-append (costs-removed level OPEN_ORDERS o.name (packed_order o)) (costs-dequeue level o.name)));
+          costs = subst (λ v. Costs level (look_up o ∷ act_of (Remove OPEN_ORDERS o.name) (Value v) ∷ act_of (Dequeue level) (Value (slice_get (queue_at removed level) 0)) ∷ []) 2 2 0) (sym front-stood)
+              (subst (λ v. Costs level (look_up o ∷ act_of (Remove OPEN_ORDERS o.name) (Value (Some (packed_order o))) ∷ act_of (Dequeue level) (Value v) ∷ []) 2 2 0) (sym first)
+              (costs-append (costs-taken level OPEN_ORDERS o.name (packed_order o) (packed_order o)) (costs-dequeue level o.name)));
         }
 
-    lessened_out : o.left ≢ taken → IsOut less level side depths takers false (played (take_out level o taken false) s) (made (take_out level o taken false) s)
+    lessened_out : o.left ≢ taken → IsOut less level o side depths takers false (played (take_out level o taken false) s) (made (take_out level o taken false) s)
     lessened_out other =
         let more : taken < o.left = omega (arith, other) in
         let inserted = insert-sets removed OPEN_ORDERS o.name (packed_order o - taken) (omega (arith, gone.maps, r.maps)) gone.here in
@@ -88,13 +93,13 @@ module _ {s : State} {b : Book} {side : Side} {depths takers : ℕ → ℕ} (r :
         ∙ sym (open_order-with_less b o taken r.sound has within ∙ ap (λ t. cond t (Some (packed o.account o.side o.price (o.left - taken))) None) (lt-ltb 0 (o.left - taken) (omega arith))) in
         record {
           reflects = reflects-less r (after removed (Insert OPEN_ORDERS o.name (packed_order o - taken))) o.name taken (subst (Sets s (after removed (Insert OPEN_ORDERS o.name (packed_order o - taken))) OPEN_ORDERS o.name) now (sets-again gone inserted));
-          costs = subst (λ v. Costs level (act_of (Remove OPEN_ORDERS o.name) (Value v) ∷ act_of (Insert OPEN_ORDERS o.name (packed_order o - taken)) (Flag (is_none (fin.get (map_at removed OPEN_ORDERS) o.name))) ∷ []) 1 3 1) (sym front-stood)
-              (subst (λ v. Costs level (act_of (Remove OPEN_ORDERS o.name) (Value (Some (packed_order o))) ∷ act_of (Insert OPEN_ORDERS o.name (packed_order o - taken)) (Flag (is_none v)) ∷ []) 1 3 1) (sym gone.here)
-              (costs-more (costs-replaced level OPEN_ORDERS o.name (packed_order o) (packed_order o - taken)) 1 3 1 (omega arith) (omega arith) (omega arith)));
+          costs = subst (λ v. Costs level (look_up o ∷ act_of (Remove OPEN_ORDERS o.name) (Value v) ∷ act_of (Insert OPEN_ORDERS o.name (packed_order o - taken)) (Flag (is_none (fin.get (map_at removed OPEN_ORDERS) o.name))) ∷ []) 2 3 1) (sym front-stood)
+              (subst (λ v. Costs level (look_up o ∷ act_of (Remove OPEN_ORDERS o.name) (Value (Some (packed_order o))) ∷ act_of (Insert OPEN_ORDERS o.name (packed_order o - taken)) (Flag (is_none v)) ∷ []) 2 3 1) (sym gone.here)
+              (costs-more (costs-put_back level OPEN_ORDERS o.name (packed_order o) (packed_order o) (packed_order o - taken)) 2 3 1 (omega arith) (omega arith) (omega arith)));
         }
 
-    pub taken_out : IsOut less level side depths takers (o.left == taken) (played (take_out level o taken (o.left == taken)) s) (made (take_out level o taken (o.left == taken)) s)
-    taken_out = elim (o.left == taken) as (λ t. (o.left == taken) ≡ t → IsOut less level side depths takers t (played (take_out level o taken t) s) (made (take_out level o taken t) s)) [
+    pub taken_out : IsOut less level o side depths takers (o.left == taken) (played (take_out level o taken (o.left == taken)) s) (made (take_out level o taken (o.left == taken)) s)
+    taken_out = elim (o.left == taken) as (λ t. (o.left == taken) ≡ t → IsOut less level o side depths takers t (played (take_out level o taken t) s) (made (take_out level o taken t) s)) [
       | true ↦ λ e. emptied_out (eqb-true o.left taken e)
       | false ↦ λ e. lessened_out (eqb-false o.left taken e)
     ] refl

@@ -13,8 +13,7 @@ use Rattle.md_machine.specs.LogicalHeap.{LogicalHeap, IsPlaced, IsNoUnplacedNext
 use Rattle.md_machine.specs.Meaning.{Stands, TidyStands, KeepsFacts, Follows, NamesPlaced, after_certificate, after_tidy}
 use Rattle.md_list_law.specs.ListShape.{next_word, head_word, IsIn, IsBucket}
 use Rattle.md_list_law.specs.HasLists.{HasListsOf}
-use Rattle.md_list_law.proofs.Chains.{names_above}
-use Rattle.md_list_law.proofs.Pairs.{rises_of}
+use Rattle.md_list_law.proofs.Order.{onward_names}
 use Rattle.md_list_law.proofs.ListKept.{pairs_same}
 use Rattle.md_list_law.proofs.Elsewhere.{facts_kept}
 use Rattle.md_list_law.proofs.Standing.{ListAfter, RowAfter, SameAfter, row_after, unlink_after}
@@ -36,7 +35,7 @@ module _ (h : LogicalHeap) (are : AreBuckets h) (alone : (node : ℕ) (s : Struc
   next_names node placed =
       let t = alone node placed.0 placed.1 in
       let is = (are t.0 t.1 t.2 t.3).list in
-      names_placed h (Bucket t.0 t.1) _ (names_above h (Bucket t.0 t.1) (rises_of h (Bucket t.0 t.1) (head_word h.words.shape t.0 t.1) is) _ _
+      names_placed h (Bucket t.0 t.1) _ (onward_names h (Bucket t.0 t.1) _ _
       (is.rises node (placed.1 ∙ ap (λ (s : Structure). Some s) t.4)))
 
   -- after a change of a bucket's list each placed node is still of a bucket, and each fact holds

@@ -12,20 +12,21 @@ use md_history::{Act, Acts, Line, MAX_LINE, Op, Reply};
 use std::process::Abort;
 use std::test::Fail;
 
-// What some acts count, by hand. They look for a key in vain, add another, take it out and fail to
-// add the first; they put a value into queue 0, take it out, and look at its first values twice;
-// and they put a value into queue 1.
+// What some acts count, by hand. They look for a key in vain, add another, take it out, set it and
+// fail to add the first; they put a value into queue 0, take it out, and look at its first values
+// twice; and they put a value into queue 1.
 fn counts()
     ensures { let acts = act_of (op.Get 0 1) (reply.Value None)
         ∷ act_of (op.Insert 0 2 9) (reply.Flag true)
         ∷ act_of (op.Remove 0 2) (reply.Value (Some 9))
+        ∷ act_of (op.Put 0 2 8) (reply.Value None)
         ∷ act_of (op.Insert 0 1 9) (reply.Flag false)
         ∷ act_of (op.Enqueue 0 7) reply.Nothing
         ∷ act_of (op.Dequeue 0) (reply.Value (Some 7))
         ∷ act_of (op.Front 0) (reply.Value None)
         ∷ act_of (op.Line 0 3) (reply.Line (line_of []))
         ∷ act_of (op.Enqueue 1 8) reply.Nothing ∷ []
-        in (reads acts ≡ 9) × (writes acts ≡ 13) × (nodes acts ≡ 3) }
+        in (reads acts ≡ 9) × (writes acts ≡ 13) × (nodes acts ≡ 4) }
 {}
 
 #[test]
@@ -42,7 +43,7 @@ pub(super) fn has_acts(rt: &impl Abort, acts: &Acts, want: &[Act]) {
 }
 
 // An act with each kind of reply.
-fn each_reply() -> [Act; 6] {
+fn each_reply() -> [Act; 7] {
     let mut values = [0; MAX_LINE];
     values[0] = 5;
     values[1] = 6;
@@ -51,6 +52,11 @@ fn each_reply() -> [Act; 6] {
         map: 2,
         key: 3,
         value: 4,
+    };
+    let put = Op::Put {
+        map: 2,
+        key: 3,
+        value: 5,
     };
     [
         Act {
@@ -64,6 +70,10 @@ fn each_reply() -> [Act; 6] {
         Act {
             op: insert,
             reply: Reply::Flag(true),
+        },
+        Act {
+            op: put,
+            reply: Reply::Value(Some(4)),
         },
         Act {
             op: Op::Enqueue { queue: 1, value: 4 },

@@ -1,19 +1,22 @@
--- The insert of a key that is absent: its place may be changed to a fresh node, and the operation ended.
+-- The insert of a key that is absent, and the put of one: its place may be changed to a fresh node, and the operation ended.
 use Rattle.std.proofs.Common.{◌≡◌, ◌≢◌, ◌<◌, ◌^◌, ◌++◌, ℕ, true, false, List, [], ◌∷◌, None, get_or, refl, sym, ap, ◌∙◌, subst, inl, arith}
 use Rattle.std.proofs.lemmas.Bool.{true≢false}
 use Rattle.std.proofs.lemmas.List.Elements.{All-cons, All-nil, Contains-append_right}
 use Rattle.std.specs.List.{All, Contains}
+use Rattle.md_words.specs.declared.shape.Shape.{Shape}
 use Rattle.md_words.specs.Layout.{address, bucket_of}
 use Rattle.md_words.specs.Link.{link_value}
 use Rattle.md_words.specs.Place.{node_next}
-use Rattle.md_history.specs.declared.acts.Op.TheVariants.{Insert}
-use Rattle.md_history.specs.declared.acts.Reply.TheVariants.{Flag}
+use Rattle.md_history.specs.declared.acts.Op.{Op}
+use Rattle.md_history.specs.declared.acts.Op.TheVariants.{Insert, Put}
+use Rattle.md_history.specs.declared.acts.Reply.{Reply}
+use Rattle.md_history.specs.declared.acts.Reply.TheVariants.{Flag, Value}
 use Rattle.md_machine.specs.declared.certificate.Certificate.{Certificate}
 use Rattle.md_machine.specs.declared.certificate.Change.{Change}
 use Rattle.md_machine.specs.declared.certificate.NewNode.{NewNode}
 use Rattle.md_machine.specs.declared.node.Structure.{Structure}
 use Rattle.md_machine.specs.declared.node.Structure.TheVariants.{Bucket}
-use Rattle.md_machine.specs.Certified.{after_wholes, all_changes, is_written}
+use Rattle.md_machine.specs.Certified.{after_wholes, is_written}
 use Rattle.md_machine.specs.LogicalHeap.{Holds}
 use Rattle.md_machine.specs.Meaning.{Lawful, Meaning}
 use Rattle.md_machine.proofs.lists.Rising.{here}
@@ -31,7 +34,7 @@ use Rattle.md_nbtc_law.proofs.structures.Exchanging.{HasExchanged, may_exchange_
 use Rattle.md_nbtc_law.proofs.structures.NodesKnown.{shape_later}
 use Rattle.md_nbtc_law.proofs.structures.SeenValues.{seen_value}
 use Rattle.md_nbtc_law.proofs.structures.Tidying.{bare_holds}
-use Rattle.md_list_law.specs.Certificates.{IsRow, insert_true}
+use Rattle.md_list_law.specs.Certificates.{IsRow, PlacesNode, insert_true, put_none}
 use Rattle.md_list_law.specs.HasLists.{HasListsOf}
 use Rattle.md_list_law.specs.ListShape.{next_word}
 use Rattle.md_list.specs.declared.walk.Found.{Found}
@@ -44,12 +47,22 @@ use Rattle.md_list.proofs.changes.FreshNode.{apart_from_fresh, fresh_after, fres
 use Rattle.md_list.proofs.answers.FoundOn.{before_later, head_later, there_later}
 use Rattle.md_list.proofs.walking.ListWords.{cleanups_stay, may_change}
 use Rattle.md_list.proofs.answers.LookUps.{Gap, gap}
-use Rattle.md_list.proofs.charges.Charging.{charged_later}
 use Rattle.md_list.proofs.answers.Rows.{one_head, row_certifies, row_of_map}
 use Rattle.md_list.proofs.refusals.Would.{would_change}
 
+-- the row of an operation that adds a key
+abbrev pub AddsKey : (key value : ℕ) → (op : ℕ → Op) → Reply → Type 0
+AddsKey key value op reply = (shape : Shape) (list : Structure) (head map : ℕ) (c : Certificate) → c.op ≡ op map → c.reply ≡ reply → PlacesNode shape list head c key value
+    → IsRow shape list head map key c
+
+pub insert_adds : (key value : ℕ) → AddsKey key value (λ map. Insert map key value) (Flag true)
+insert_adds key value shape list head map c op reply places = insert_true value op reply places
+
+pub put_adds : (key value : ℕ) → AddsKey key value (λ map. Put map key value) (Value None)
+put_adds key value shape list head map c op reply places = put_none value op reply places
+
 module _ (M : Meaning) (lawful : Lawful M) (lists : HasListsOf M) (t : TxnState) (head key : ℕ) (found : Found) (has : HasFound M t head key found) (absent : found.here ≡ false)
-    (value : ℕ) (u : TxnState) (goes : GoesOn M t u) (node : ℕ) (fresh : Freshens t u key value found.at.value node) (given : KeepsGiven t u (address (shape_in t) (node_next node))) where
+    (value : ℕ) (op : ℕ → Op) (reply : Reply) (adds : AddsKey key value op reply) (u : TxnState) (goes : GoesOn M t u) (node : ℕ) (fresh : Freshens t u key value found.at.value node) (given : KeepsGiven t u (address (shape_in t) (node_next node))) where
   abbrev w : IsWalking M t head
   w = has.walking
 
@@ -118,10 +131,10 @@ module _ (M : Meaning) (lawful : Lawful M) (lists : HasListsOf M) (t : TxnState)
   g = gap M lawful lists t head key found has absent
 
   abbrev c : Certificate
-  c = changing (Insert w.map key value) (Flag true) w.changes change (new ∷ []) g.facts
+  c = changing (op w.map) reply w.changes change (new ∷ []) g.facts
 
   row : IsRow (shape_in t) list head w.map key c
-  row = insert_true value refl refl (record {
+  row = adds (shape_in t) list head w.map c refl refl (record {
     word = found.prev;
     old = found.at.value;
     node = node;
@@ -139,18 +152,18 @@ module _ (M : Meaning) (lawful : Lawful M) (lists : HasListsOf M) (t : TxnState)
       (fresh_after M lawful u cs going_u own own_there stored_there w.changes w.tidied.bare x over prepared h of) (All-nil _)
 
   -- where no slot is left for the change, it would stand
-  pub needs_link : found.at.count < 2 ^ 32 → is_written (writes_in u) found.prev ≡ false → (map : ℕ) → IsHeadOf (shape_in t) map key head → OneMoreChange M u cs map key (Insert map key value)
+  pub needs_link : found.at.count < 2 ^ 32 → is_written (writes_in u) found.prev ≡ false → (map : ℕ) → IsHeadOf (shape_in t) map key head → OneMoreChange M u cs map key (op map)
   needs_link fits unwritten map is =
       let own_head = one_head (shape_in t) w.map w.bucket map (bucket_of (shape_in t) key) head w.is_head is in
-      subst (λ m. OneMoreChange M u cs m key (Insert m key value)) own_head.0 (record {
+      subst (λ m. OneMoreChange M u cs m key (op m)) own_head.0 (record {
         change = change;
         seen = found.at;
         unwritten = unwritten;
-        reply = Flag true;
+        reply = reply;
         certificate = c;
         changes = ap (λ l. l ++ change ∷ []) (w.tidied.changes ∙ sym (ap (λ (x : TxnState). x.hand.changes) fresh.new));
-        nodes = places_own (Insert w.map key value) (Flag true) w.changes change (new ∷ []) g.facts w.tidied.bare ∙ sym stored_is;
-        would = would_change M lawful lists t head key w own_head.1 (Insert w.map key value) (Flag true) change (new ∷ []) g.facts found.at has.place.at fits refl row facts_known
+        nodes = places_own (op w.map) reply w.changes change (new ∷ []) g.facts w.tidied.bare ∙ sym stored_is;
+        would = would_change M lawful lists t head key w own_head.1 (op w.map) reply change (new ∷ []) g.facts found.at has.place.at fits refl row facts_known
             u goes.later gives_u.gave new_fresh;
       })
 
@@ -180,11 +193,11 @@ module _ (M : Meaning) (lawful : Lawful M) (lists : HasListsOf M) (t : TxnState)
       stored_node : IsStoredNode v new
       stored_node = record { own = own_v; unsettled = has.place.at.unmarked }
 
-      pub inserted : IsAnswered M t v cs map key (Insert map key value) (Flag true)
-      inserted = subst (λ m. IsAnswered M t v cs m key (Insert m key value) (Flag true)) own_head.0 (record {
+      pub inserted : IsAnswered M t v cs map key (op map) reply
+      inserted = subst (λ m. IsAnswered M t v cs m key (op m) reply) own_head.0 (record {
         certificate = c;
         of = (refl, refl);
-        may = may_end_changing M t cs w.changes w.tidied v later_v (Insert w.map key value) (Flag true) change (new ∷ []) g.facts
+        may = may_end_changing M t cs w.changes w.tidied v later_v (op w.map) reply change (new ∷ []) g.facts
             (row_certifies M lists t head key w own_head.1 v later_v c row w.unlinks)
             (ap (λ h. h.changes) linked.hand ∙ ap (λ (x : TxnState). x.hand.changes ++ change ∷ []) fresh.new) (sym stored_v)
             (All-cons (IsStoredNode v) new [] stored_node (All-nil (IsStoredNode v)))
@@ -194,7 +207,7 @@ module _ (M : Meaning) (lawful : Lawful M) (lists : HasListsOf M) (t : TxnState)
             (known_later M _ t v later_v facts_known)
             (known_later M _ u v goes_v.later new_fresh);
         row = row_of_map M lists t head key w own_head.1 v later_v c row w.unlinks;
-        charged = charged_later t v later_v (all_changes cs) w.changes w.charged;
+        charged = w.charged;
         few = omega arith;
         recorded = λ r among. inl (subst (λ l. Contains l r) (linked.reads ∙ ap (λ (x : TxnState). x.reads) fresh.new) among);
       })

@@ -15,7 +15,7 @@ use Rattle.md_machine.specs.declared.certificate.Fact.{Fact}
 use Rattle.md_machine.specs.declared.node.Structure.{Structure}
 use Rattle.md_machine.specs.declared.node.Structure.TheVariants.{Bucket}
 use Rattle.md_machine.specs.declared.attempt.Write.{Write}
-use Rattle.md_machine.specs.Certified.{after_wholes, all_changes, is_written}
+use Rattle.md_machine.specs.Certified.{after_wholes, is_written}
 use Rattle.md_machine.specs.LogicalHeap.{Holds}
 use Rattle.md_machine.specs.Meaning.{Lawful, Meaning}
 use Rattle.md_machine.proofs.chain.SameNodes.{next_alone}
@@ -53,7 +53,6 @@ use Rattle.md_list.proofs.answers.FoundOn.{before_later, head_later}
 use Rattle.md_list.proofs.walking.ListWords.{mark_stays, next_keeps_none, next_may_change}
 use Rattle.md_list.proofs.answers.LookUps.{here_node, pair_known}
 use Rattle.md_list.proofs.walking.Marks.{mark_set}
-use Rattle.md_list.proofs.charges.Charging.{charged_later}
 use Rattle.md_list.proofs.answers.Rows.{one_head, row_certifies, row_of_map}
 use Rattle.md_list.proofs.changes.Staying.{KeepsNone, none_changed}
 use Rattle.md_list.proofs.changes.UnlinkLater.{may_unlink_later}
@@ -245,7 +244,7 @@ module _ (M : Meaning) (lawful : Lawful M) (lists : HasListsOf M) (t : TxnState)
               (known_later M _ t v later_v (facts_known value word word_is data_is))
               (λ x over prepared h of. All-nil _);
           row = row_of_map M lists t head key w own_head.1 v later_v (c value word word_is data_is) (row value word word_is data_is) w.unlinks;
-          charged = charged_later t v later_v (all_changes w.certificates) w.changes w.charged;
+          charged = w.charged;
           few = omega arith;
           recorded = λ r among. inl (subst (λ l. Contains l r) (ap (λ (x : TxnState). x.reads) kept ∙ marked_by.reads) among);
         })

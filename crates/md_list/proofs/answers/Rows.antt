@@ -40,7 +40,7 @@ use Rattle.md_list_law.specs.ListShape.{head_word}
 use Rattle.md_list.specs.Operations.{IsAnswered, IsBegun}
 use Rattle.md_list.specs.declared.walk.Found.{Found}
 use Rattle.md_list.specs.Walking.{FindsFrom, Gives, HasFound, IsHead, IsHeadOf, IsWalking}
-use Rattle.md_list.proofs.charges.Charging.{charged_later}
+use Rattle.md_list.proofs.charges.Charging.{SameSets, charged_before}
 use Rattle.md_list.proofs.changes.Noted.{NotesOnly}
 
 -- a head is that of one bucket
@@ -70,17 +70,18 @@ begun_walks M t map key head begun is cs going = record {
 pub found_of : (M : Meaning) (s t : TxnState) (head key : ℕ) (found : Found) → FindsFrom M s t head key found → IsBegun M s → (map : ℕ) × IsHeadOf (shape_in s) map key head → HasFound M t head key found
 found_of M s t head key found finds begun is = (finds (begun_walks M s is.0 key head begun is.1 begun.going.0 begun.going.1)).0
 
--- an answer after ended operations with the same certificates, and since an earlier state with the same recorded words
-pub by_same : (M : Meaning) (s t v : TxnState) (cs ds : List Certificate) (map key : ℕ) {op : Op} {reply : Reply} → cs ≡ ds → t.reads ≡ s.reads
+-- an answer after ended operations with the same certificates, and since an earlier state with the same recorded words and
+-- nodes
+pub by_same : (M : Meaning) (s t v : TxnState) (cs ds : List Certificate) (map key : ℕ) {op : Op} {reply : Reply} → cs ≡ ds → SameSets s t
     → IsAnswered M t v cs map key op reply → IsAnswered M s v ds map key op reply
-by_same M s t v cs ds map key {op = op} {reply = reply} same reads is = subst (λ x. IsAnswered M s v x map key op reply) same (record {
+by_same M s t v cs ds map key {op = op} {reply = reply} same sets is = subst (λ x. IsAnswered M s v x map key op reply) same (record {
   certificate = is.certificate;
   of = is.of;
   may = is.may;
   row = is.row;
-  charged = is.charged;
+  charged = charged_before s t sets (all_changes cs) is.certificate.tidy is.charged;
   few = is.few;
-  recorded = λ r among. ⊎_elim (λ old. inl (subst (λ l. Contains l r) reads old)) inr (is.recorded r among);
+  recorded = λ r among. ⊎_elim (λ old. inl (subst (λ l. Contains l r) sets.reads old)) inr (is.recorded r among);
 })
 
 -- one word is few for an operation that changes nothing
@@ -147,7 +148,7 @@ module _ (M : Meaning) (lawful : Lawful M) (lists : HasListsOf M) (t : TxnState)
           (seen_value M lawful t cs w.going w.changes w.tidied word seen shows.gives.gave shows.gives.there fits v goes.later first_is u over prepared h of) (All-nil _))
           (known_later M _ t v goes.later shown_facts);
       row = row_of_map M lists t head key w own_bucket v goes.later shown shows.row w.unlinks;
-      charged = charged_later t v goes.later (all_changes cs) w.changes w.charged;
+      charged = w.charged;
       few = one_is_few op reply shows.nothing;
       recorded = λ r in_v. ⊎_elim inl (λ this. inr (subst (Contains (word ∷ [])) (sym this) (here word []))) (among r in_v);
     }

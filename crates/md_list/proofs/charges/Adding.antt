@@ -17,6 +17,8 @@ use Rattle.md_nbtc_law.proofs.structures.Answering.{IsStopped}
 use Rattle.md_nbtc_law.proofs.structures.Noting.{HasNoted}
 use Rattle.md_list.specs.Operations.{OperationGoesOn, SlotsStay}
 use Rattle.md_list.proofs.changes.Staying.{KeepsNone, slots_kept, slots_over, slots_same}
+use Rattle.md_list.proofs.charges.Charging.{SameSets}
+use Rattle.md_nbtc_law.proofs.structures.NodesKnown.{shape_later}
 
 -- one call adds so much at most, and leaves the acts, the slots, and that an operation is begun
 pub record Adds (t u : TxnState) (reads writes nodes : ℕ) : Type 0 where
@@ -144,3 +146,10 @@ module _ (M : Meaning) (s t : TxnState) where
 
   pub nodes_kept : (reads writes : ℕ) → OperationGoesOn M s t reads writes 0 → t.nodes ≡ s.nodes
   nodes_kept reads writes leaves = on_by_none s.nodes t.nodes leaves.on.later.nodes leaves.nodes_few
+
+  pub sets_kept : (writes : ℕ) → OperationGoesOn M s t 0 writes 0 → SameSets s t
+  sets_kept writes leaves = record {
+    reads = reads_kept writes 0 leaves;
+    nodes = nodes_kept 0 writes leaves;
+    shape = shape_later s t leaves.on.later;
+  }

@@ -1,35 +1,26 @@
 -- The reasons why unlinks are parts of the transaction stay, and a walk's next unlink has one.
-use Rattle.std.proofs.Common.{◌≡◌, ◌≢◌, ◌==◌, ◌||◌, ◌++◌, ◌⊎◌, ℕ, true, false, List, [], ◌∷◌, map, Option, Some, None, is_some, refl, sym, ap, ◌∙◌, subst, inl, inr, ⊎_elim, eqb-true, ne_eqb, append_assoc, if◌then◌else◌}
-use Rattle.std.proofs.lemmas.Bool.{cases_Bool, true≢false}
+use Rattle.std.proofs.Common.{◌≡◌, ◌==◌, ◌||◌, ◌++◌, ◌⊎◌, ℕ, true, List, [], ◌∷◌, map, Option, Some, None, is_some, refl, sym, ap, ◌∙◌, subst, inl, inr, ⊎_elim, eqb-true, append_assoc}
+use Rattle.std.proofs.lemmas.Bool.{cases_Bool}
 use Rattle.std.proofs.lemmas.List.{append-nil}
 use Rattle.std.proofs.lemmas.List.Elements.{Contains-append_left}
-use Rattle.std.specs.List.{AllPairs, Contains, list_any}
+use Rattle.std.specs.List.{Contains, list_any}
 use Rattle.md_words.specs.Link.{linked_node}
 use Rattle.md_machine.specs.declared.attempt.Read.{Read}
-use Rattle.md_machine.specs.declared.attempt.Write.{Write}
 use Rattle.md_machine.specs.declared.certificate.Certificate.{Certificate}
 use Rattle.md_machine.specs.declared.certificate.Change.{Change}
 use Rattle.md_machine.specs.declared.certificate.TidyChange.{TidyChange}
 use Rattle.md_machine.specs.Certified.{all_changes, changes_of_tidy, content_read, is_written}
 use Rattle.md_machine.specs.Meaning.{Meaning}
-use Rattle.md_machine.proofs.lists.Rising.{in_map, map_in}
-use Rattle.md_nbtc_law.specs.declared.seen.Kind.{Kind}
+use Rattle.md_machine.proofs.lists.Rising.{in_map}
 use Rattle.md_nbtc_law.specs.declared.seen.Kind.TheVariants.{Plain}
-use Rattle.md_nbtc_law.specs.declared.seen.Seen.{Seen}
-use Rattle.md_nbtc_law.specs.declared.slots.Slot.{Slot}
-use Rattle.md_nbtc_law.specs.Calls.{is_critical, is_next_word, new_slot}
+use Rattle.md_nbtc_law.specs.Calls.{is_critical, is_next_word}
 use Rattle.md_nbtc_law.specs.Going.{IsGoing}
 use Rattle.md_nbtc_law.specs.Known.{IsLater}
-use Rattle.md_nbtc_law.specs.Seeing.{Gave, SeesSlot}
 use Rattle.md_nbtc_law.specs.State.{OwnNode, TxnState, shape_in, writes_in}
 use Rattle.md_nbtc_law.specs.Tidied.{HasTidied}
 use Rattle.md_nbtc_law.proofs.exchanging.OwnSlots.{any_found}
 use Rattle.md_nbtc_law.proofs.exchanging.Refused.{read_there}
-use Rattle.md_nbtc_law.proofs.exchanging.Renewed.{renew, renewed_writes}
-use Rattle.md_nbtc_law.proofs.ready.Lookups.{one_of}
-use Rattle.md_nbtc_law.proofs.structures.Exchanging.{HasExchanged, changed_own, changed_plainly, installed}
 use Rattle.md_nbtc_law.proofs.structures.NodesKnown.{shape_later}
-use Rattle.std.proofs.lemmas.List.{map-append}
 use Rattle.md_list_law.specs.ListShape.{next_word}
 use Rattle.md_list.specs.Charged.{AreCharged, IsCharged, changed, own_next, passes, recorded}
 
@@ -46,6 +37,31 @@ module _ (t u : TxnState) (later : IsLater t u) where
   pub charged_later : (earlier : List Change) (cs : List TidyChange) → AreCharged t earlier cs → AreCharged u earlier cs
   charged_later earlier [] all = tt
   charged_later earlier (c ∷ cs) all = (one_charged earlier c all.0, charged_later (earlier ++ c.change ∷ []) cs all.1)
+
+-- the same words were recorded and the same nodes taken, so the same reasons stand
+pub record SameSets (s t : TxnState) : Type 0 where
+  pub reads : t.reads ≡ s.reads
+  pub nodes : t.nodes ≡ s.nodes
+  pub shape : shape_in t ≡ shape_in s
+
+module _ (s t : TxnState) (same : SameSets s t) where
+  one_before : (earlier : List Change) (c : TidyChange) → IsCharged t earlier c → IsCharged s earlier c
+  one_before earlier c (changed is) = changed is
+  one_before earlier c (recorded r among is) = recorded r (subst (λ l. Contains l r) same.reads among) is
+  one_before earlier c (own_next n among is) = own_next n (subst (λ l. Contains l n) same.nodes among) (is ∙ ap (λ x. next_word x n.node) same.shape)
+  one_before earlier c (passes is) = passes (subst (λ x. list_any (λ (d : Change). d.word == next_word x (linked_node c.change.old)) earlier ≡ true) same.shape is)
+
+  pub charged_before : (earlier : List Change) (cs : List TidyChange) → AreCharged t earlier cs → AreCharged s earlier cs
+  charged_before earlier [] all = tt
+  charged_before earlier (c ∷ cs) all = (one_before earlier c all.0, charged_before (earlier ++ c.change ∷ []) cs all.1)
+
+-- a read of a field changes none of them
+pub sets_read : (s t u : TxnState) → SameSets s t → u ≡ record t { pass = u.pass } → SameSets s u
+sets_read s t u same is = record {
+  reads = ap (λ (x : TxnState). x.reads) is ∙ same.reads;
+  nodes = ap (λ (x : TxnState). x.nodes) is ∙ same.nodes;
+  shape = ap (λ (x : TxnState). shape_in x) is ∙ same.shape;
+}
 
 -- one more unlink
 pub charged_push : (t : TxnState) (earlier : List Change) (cs : List TidyChange) (c : TidyChange) → AreCharged t earlier cs

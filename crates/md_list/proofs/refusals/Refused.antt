@@ -138,6 +138,9 @@ module _ (M : Meaning) (A : Type 0) (s u : TxnState) (result : Result A Stop) (s
   pub never_refused : (limit : Limit) → (s.stop ≡ None → stop ≢ Limited limit) → NotRefusedBy limit s result
   never_refused limit other none same = other none (stop_is (Limited limit) same)
 
+  pub never_within : {B : Type 0} (limit : Limit) → NotRefusedBy limit s (let r : Result B Stop = Err stop in r) → NotRefusedBy limit s result
+  never_within {B} limit never none same = never none (ap (λ x. let e : Result B Stop = Err x in e) (stop_is (Limited limit) same))
+
   pub refused_never : {B : Type 0} (limit : Limit) (Needs : TxnState → Type 0) → NotRefusedBy limit s (let r : Result B Stop = Err stop in r) → RefusedBy limit M s u result Needs
   refused_never {B} limit Needs never none same = absurd (never none (ap (λ x. let e : Result B Stop = Err x in e) (stop_is (Limited limit) same)))
 

@@ -1,5 +1,5 @@
 -- Where a walk along a list stands: at a word of the list, past the nodes that it visited.
-use Rattle.std.proofs.Common.{◌≡◌, ◌≢◌, ◌⊎◌, ◌<◌, ℕ, List, Some, refl, sym, ap, ◌∙◌, subst, inl, inr, ⊎_elim}
+use Rattle.std.proofs.Common.{◌≡◌, ◌≢◌, ◌⊎◌, ℕ, List, Some, refl, sym, ap, ◌∙◌, subst, inl, inr, ⊎_elim}
 use Rattle.std.specs.List.{All, AllPairs, Contains}
 use Rattle.md_words.specs.declared.shape.Shape.{Shape}
 use Rattle.md_words.specs.Layout.{IsNode}
@@ -28,7 +28,7 @@ use Rattle.md_nbtc_law.proofs.structures.Growing.{tidied_later}
 use Rattle.md_nbtc_law.proofs.structures.NodesKnown.{fact_after, new_exist, own_known, placed_or_own, shape_known}
 use Rattle.md_list_law.specs.Certificates.{node_fact}
 use Rattle.md_list_law.specs.HasLists.{HasListsOf}
-use Rattle.md_list_law.specs.ListShape.{IsIn, NamesNone, next_word}
+use Rattle.md_list_law.specs.ListShape.{IsIn, IsRank, NamesNone, Precedes, next_word}
 use Rattle.md_list_law.proofs.Links.{head_is_no_next}
 use Rattle.md_list.specs.declared.walk.Found.{Found}
 use Rattle.md_list.specs.Walking.{Gives, HasFound, IsBefore, IsHead, IsWalking}
@@ -38,10 +38,13 @@ use Rattle.md_list.proofs.charges.Charging.{charged_later}
 abbrev pub stepped : TxnState → PassState → TxnState
 stepped t p = record t { pass = p }
 
--- a value names no node, or a node of the list whose key is greater than those of all that were visited
+-- whatever ranks the nodes of a list have, each that was visited comes before this one
+abbrev pub AreBefore : LogicalHeap → Structure → List ℕ → (node : ℕ) → Type 0
+AreBefore h list visited node = (rank : ℕ → ℕ) → IsRank h list rank → All (λ other. Precedes h rank other node) visited
+
+-- a value names no node, or a node of the list that comes after all that were visited
 abbrev pub NamesPast : LogicalHeap → Structure → List ℕ → (value : ℕ) → Type 0
-NamesPast h list visited value = NamesNone value
-    ⊎ (IsIn h list (linked_node value) × All (λ node. h.words.key_of node < h.words.key_of (linked_node value)) visited)
+NamesPast h list visited value = NamesNone value ⊎ (IsIn h list (linked_node value) × AreBefore h list visited (linked_node value))
 
 module _ (M : Meaning) where
   -- the word is the head, or the next word of a visited node

@@ -1,6 +1,6 @@
 -- A walk goes further: past an unlinked node, or to the next word of the node that it looked at.
 use Rattle.std.proofs.Common.{◌≡◌, ◌≢◌, ◌==◌, ◌⊎◌, ◌<◌, ◌-◌, ◌+◌, ℕ, true, false, List, [], ◌∷◌, Some, None, refl, sym, ap, ◌∙◌, subst, inl, inr, ⊎_elim}
-use Rattle.std.proofs.lemmas.Bool.{true≢false}
+use Rattle.std.proofs.lemmas.Bool.{cases_Bool, cases_eq, true≢false}
 use Rattle.std.proofs.lemmas.List.Elements.{All-contains, All-cons, All-weaker, Contains-append_right}
 use Rattle.std.specs.List.{All}
 use Rattle.md_words.specs.Layout.{IsNode, address}
@@ -24,7 +24,8 @@ use Rattle.md_nbtc_law.specs.Tidied.{HasTidied, tidied}
 use Rattle.md_nbtc_law.proofs.ready.Lookups.{all_of}
 use Rattle.md_list_law.specs.Certificates.{IsUnlink, key_fact}
 use Rattle.md_list_law.specs.HasLists.{HasListsOf}
-use Rattle.md_list_law.specs.ListShape.{IsIn, next_word}
+use Rattle.md_list_law.specs.ListShape.{IsIn, IsRank, NamesAfter, NamesOnward, Precedes, next_word}
+use Rattle.md_list_law.proofs.Order.{above_unmarked, after_above, precedes_over}
 use Rattle.md_list.specs.Walking.{IsBefore}
 use Rattle.md_list.proofs.walking.At.{IsAt}
 use Rattle.md_list.specs.Charged.{AreCharged, IsCharged, changed as was_changed}
@@ -56,16 +57,16 @@ use Rattle.md_nbtc_law.proofs.structures.NodesKnown.{data_known}
 use Rattle.md_nbtc_law.proofs.structures.SeenValues.{seen_value}
 use Rattle.md_list.specs.Walking.{Gives, KnowsAfter}
 use Rattle.md_list.specs.declared.walk.Found.{Found}
-use Rattle.md_list.proofs.walking.At.{HasFoundBy, IsAtBy, IsBehind, NamesPast, found_stays, looked_there, stepped, walking_on}
+use Rattle.md_list.proofs.walking.At.{AreBefore, HasFoundBy, IsAtBy, IsBehind, NamesPast, found_stays, looked_there, stepped, walking_on}
 use Rattle.md_list.proofs.walking.Counting.{few_below}
 use Rattle.md_list.proofs.walking.Marks.{node_kept}
-use Rattle.md_list.proofs.walking.MarkedNext.{facts_hold, is_unlink, unlink, unlink_charged, unlink_tidies}
+use Rattle.md_list.proofs.walking.MarkedNext.{facts_hold, is_unlink, mark_after, unlink, unlink_charged, unlink_tidies}
 use Rattle.md_list.proofs.walking.OnNode.{not_visited, stands_on}
 use Rattle.md_list.proofs.walking.Rising.{next_names}
 
 -- two values that name the same node
 past_same : (h : LogicalHeap) (list : Structure) (visited : List ℕ) (v w : ℕ) → linked_node v ≡ linked_node w → NamesPast h list visited v → NamesPast h list visited w
-past_same h list visited v w same = subst (λ n. (n ≡ 0) ⊎ (IsIn h list n × All (λ node. h.words.key_of node < h.words.key_of n) visited)) same
+past_same h list visited v w same = subst (λ n. (n ≡ 0) ⊎ (IsIn h list n × AreBefore h list visited n)) same
 
 module _ (M : Meaning) (lawful : Lawful M) (lists : HasListsOf M) (t : TxnState) (head key : ℕ) (visited : List ℕ) (prev : ℕ) (at next : Seen)
     (on : IsOn M t head key visited prev at next) where
@@ -84,22 +85,37 @@ module _ (M : Meaning) (lawful : Lawful M) (lists : HasListsOf M) (t : TxnState)
   abbrev next_at : ℕ
   next_at = next_word (shape_in t) node
 
+  -- the node comes before the one that its next word names: by its key, or by the marked link, which stands
+  leads_on : Known M t (λ u h. linked_node next.value ≢ 0 → NamesOnward (after_wholes h cs) list ((after_wholes h cs).words.key_of node) next.value
+      → (rank : ℕ → ℕ) → IsRank (after_wholes h cs) list rank → Precedes (after_wholes h cs) rank node (linked_node next.value))
+  leads_on u later prepared h of some onward rank ranks =
+      let k = after_wholes h cs in
+      ⊎_elim (λ none. absurd (some none)) (λ before. before)
+      (⊎_elim
+      (λ marked. subst (NamesAfter k rank node) (mark_after M lawful lists t head key visited prev at next on marked u later prepared h of)
+      (ranks node (on.placed u later prepared h of)))
+      (λ plain. after_above k rank list node next.value (above_unmarked k list (k.words.key_of node) next.value plain onward))
+      (cases_Bool (is_marked next.value)))
+
   -- the next word names no node, or one past this node and all that were visited
   named_next : Known M t (λ u h. NamesPast (after_wholes h cs) list (node ∷ visited) next.value)
   named_next u later prepared h of =
       let k = after_wholes h cs in
       let past = on.past u later prepared h of in
+      let names = next_names M lawful lists t stands.walking.map stands.walking.bucket stands.walking.is_head.is_map stands.walking.is_head.is_bucket cs stands.walking.going
+      stands.walking.changes stands.walking.tidied next node on.exists on.placed on.gave on.there u later prepared h of in
       ⊎_elim inl
-      (λ above. inr (
-        above.0,
-        All-cons (λ x. k.words.key_of x < k.words.key_of (linked_node next.value)) node visited above.1
-            (all_of (λ x. k.words.key_of x < k.words.key_of (linked_node next.value)) visited (λ x among.
-            let less = All-contains (λ x. k.words.key_of x < k.words.key_of node) visited x past among in
-            let more = above.1 in
-            omega (arith, less, more))),
+      (λ some. ⊎_elim inl
+      (λ onward. inr (
+        onward.0,
+        λ rank ranks.
+            let step = leads_on u later prepared h of some names rank ranks in
+            All-cons (λ x. Precedes k rank x (linked_node next.value)) node visited step
+            (all_of (λ x. Precedes k rank x (linked_node next.value)) visited (λ x among.
+            precedes_over k rank x node (linked_node next.value) (All-contains (λ y. Precedes k rank y node) visited x (past rank ranks) among) step)),
       ))
-      (next_names M lawful lists t stands.walking.map stands.walking.bucket stands.walking.is_head.is_map stands.walking.is_head.is_bucket cs stands.walking.going
-      stands.walking.changes stands.walking.tidied next node on.exists on.placed on.gave on.there u later prepared h of)
+      names)
+      (cases_eq (linked_node next.value) 0)
 
   all_exist : All (IsNode (shape_in t)) (node ∷ visited)
   all_exist = All-cons (IsNode (shape_in t)) node visited on.exists stands.exist

@@ -1,38 +1,49 @@
 -- A marked next word: its node is known to be placed, or the word is an own one. So the node may be unlinked.
-use Rattle.std.proofs.Common.{◌≡◌, ◌≢◌, ◌-◌, ◌++◌, ◌⊎◌, ℕ, true, false, List, Option, Some, None, refl, sym, ap, ◌∙◌, subst, inr, ⊎_elim}
+use Rattle.std.proofs.Common.{◌≡◌, ◌≢◌, ◌==◌, ◌-◌, ◌++◌, ◌⊎◌, ℕ, Bool, true, false, List, [], ◌∷◌, Option, Some, None, refl, sym, ap, ◌∙◌, subst, inr, ⊎_elim, if◌then◌else◌}
 use Rattle.std.proofs.lemmas.Bool.{cases_Bool, true≢false}
-use Rattle.std.proofs.lemmas.List.Elements.{All-contains}
+use Rattle.std.proofs.lemmas.List.Elements.{All-contains, All-head, All-tail}
 use Rattle.std.specs.List.{All, Contains}
 use Rattle.md_words.specs.declared.shape.Shape.{Shape}
+use Rattle.md_words.specs.Layout.{IsNode, address}
+use Rattle.md_words.specs.Place.{node_next}
 use Rattle.md_words.specs.Link.{is_marked, link_value, linked_node}
 use Rattle.md_words.proofs.Words.{link_value-parts}
 use Rattle.md_machine.specs.declared.certificate.Certificate.{Certificate}
+use Rattle.md_machine.specs.declared.attempt.Write.{Write}
+use Rattle.md_machine.specs.declared.certificate.Fact.{Fact}
+use Rattle.md_machine.specs.declared.certificate.NewNode.{NewNode}
 use Rattle.md_machine.specs.declared.certificate.TidyChange.{TidyChange}
 use Rattle.md_machine.specs.declared.node.Structure.{Structure}
 use Rattle.md_machine.specs.declared.node.Structure.TheVariants.{Bucket}
-use Rattle.md_machine.specs.Certified.{all_changes, all_nodes, after_wholes, changes_of_tidy}
-use Rattle.md_machine.specs.LogicalHeap.{Holds, is_settled}
+use Rattle.md_machine.specs.Certified.{all_changes, all_nodes, after_wholes, changes_of_tidy, is_written}
+use Rattle.md_machine.specs.LogicalHeap.{Holds, is_settled, next_of}
 use Rattle.md_machine.specs.Meaning.{Lawful, Meaning}
 use Rattle.md_machine.specs.events.Exchange.{FoundFact, FoundNext}
-use Rattle.md_machine.proofs.chain.Agree.{tidies_shape, wholes_shape}
+use Rattle.md_machine.specs.Resolution.{or_else}
+use Rattle.md_machine.proofs.chain.Agree.{all_left, tidies_shape, wholes_shape}
+use Rattle.md_machine.proofs.chain.FactsAlong.{IsOther, LeavesNext, fact_along}
+use Rattle.md_machine.proofs.lists.Options.{some_same}
 use Rattle.md_machine.proofs.chain.SameNodes.{next_alone}
 use Rattle.md_nbtc_law.specs.declared.seen.Kind.{Kind}
 use Rattle.md_nbtc_law.specs.declared.seen.Kind.TheVariants.{Critical, Plain}
 use Rattle.md_nbtc_law.specs.declared.seen.Seen.{Seen}
 use Rattle.md_nbtc_law.specs.Calls.{MayExchange, is_critical}
-use Rattle.md_nbtc_law.specs.Course.{IsStoredNode, stored_words}
-use Rattle.md_nbtc_law.specs.Going.{IsUnplaced}
+use Rattle.md_nbtc_law.specs.Course.{IsStoredNode, last_new, stored_words}
+use Rattle.md_nbtc_law.specs.Going.{IsGoing, IsUnplaced}
 use Rattle.md_nbtc_law.specs.Known.{Known, KnowsFact, Met, WasThere}
 use Rattle.md_nbtc_law.specs.Seeing.{IsTidyNow}
 use Rattle.md_nbtc_law.specs.State.{OwnNode, TxnState, shape_in, writes_in}
 use Rattle.md_nbtc_law.proofs.ready.Lookups.{written_there}
-use Rattle.md_nbtc_law.specs.Tidied.{tidied}
+use Rattle.md_nbtc_law.specs.Tidied.{HasTidied, tidied}
 use Rattle.md_nbtc_law.proofs.exchanging.PlainWords.{foreign}
 use Rattle.md_nbtc_law.proofs.preparing.Heaps.{known_now}
 use Rattle.md_nbtc_law.proofs.structures.Exchanging.{may_exchange_so}
-use Rattle.md_nbtc_law.proofs.structures.NodesKnown.{fact_tidied, own_is_new, own_known, placed_or_own, shape_known}
+use Rattle.md_nbtc_law.proofs.structures.NodesKnown.{fact_tidied, new_exist, new_free, own_is_new, own_known, placed_or_own, shape_known}
 use Rattle.md_nbtc_law.proofs.structures.SeenValues.{own_value}
 use Rattle.md_nbtc_law.proofs.structures.Tidying.{bare_holds, bare_placed}
+use Rattle.md_nbtc_law.proofs.structures.Words.{NotOf, changes_are, unchanged}
+use Rattle.md_nbtc_law.proofs.Values.{last_append}
+use Rattle.md_nbtc_law.proofs.ready.Lookups.{all_of}
 use Rattle.md_list_law.specs.Certificates.{IsUnlink, next_fact, node_fact}
 use Rattle.md_list_law.specs.HasLists.{HasListsOf}
 use Rattle.md_list_law.specs.ListShape.{IsIn, next_word}
@@ -48,6 +59,48 @@ use Rattle.md_list.proofs.walking.Unlinks.{all_facts, is_unlink_from, unlink_fro
 no_own_next : (t : TxnState) (word : ℕ) (kind : Kind) → is_critical t word kind ≡ false → (n : OwnNode) → Contains t.nodes n → word ≢ next_word (shape_in t) n.node
 no_own_next t word Critical plain = absurd (true≢false plain)
 no_own_next t word Plain plain = foreign t word plain
+
+-- the last of some unlinks that change a word leaves it unmarked
+last_unmarked : (o : Option ℕ) (here : Bool) (value new : ℕ) → ((v : ℕ) → o ≡ Some v → is_marked v ≡ false) → is_marked value ≡ false
+    → or_else o (if here then Some value else None) ≡ Some new → is_marked new ≡ false
+last_unmarked (Some v) here value new rest plain e = rest new e
+last_unmarked None true value new rest plain e = ap is_marked (sym (some_same value new e)) ∙ plain
+last_unmarked None false value new rest plain e = absurd cc
+
+unlinks_unmarked : (shape : Shape) (list : Structure) (head : ℕ) (ts : List TidyChange) → All (IsUnlink shape list head) ts → (word new : ℕ)
+    → last_new (changes_of_tidy ts) word ≡ Some new → is_marked new ≡ false
+unlinks_unmarked shape list head [] unlinks word new e = absurd (cc e)
+unlinks_unmarked shape list head (x ∷ ts) unlinks word new e = last_unmarked (last_new (changes_of_tidy ts) word) (x.change.word == word) x.change.new new
+    (unlinks_unmarked shape list head ts (All-tail (IsUnlink shape list head) x ts unlinks) word)
+    (let first = All-head (IsUnlink shape list head) x ts unlinks in first.unmarked) e
+
+-- so a marked value that the last of all changes made is of the earlier ones
+earlier_mark : (o p : Option ℕ) (value : ℕ) → ((v : ℕ) → o ≡ Some v → is_marked v ≡ false) → is_marked value ≡ true → or_else o p ≡ Some value → p ≡ Some value
+earlier_mark None p value plain marked e = e
+earlier_mark (Some v) p value plain marked e = absurd (true≢false (sym marked ∙ plain value e))
+
+-- what is known of a next word that isn't written holds after the ended operations
+fact_unwritten : (M : Meaning) (lawful : Lawful M) (t : TxnState) (cs : List Certificate) (going : IsGoing M t cs) (ts : List TidyChange) → HasTidied M t cs ts
+    → (f : Fact) → IsNode (shape_in t) f.node → is_written (writes_in t) (address (shape_in t) (node_next f.node)) ≡ false → KnowsFact M t f
+    → Known M t (λ u h. Holds (after_wholes h cs) f)
+fact_unwritten M lawful t cs going ts has f exists unwritten known u later prepared h of =
+    let holds = known u later prepared h of in
+    let shape = shape_known M lawful t u later prepared h of in
+    let is_node = subst (λ (s : Shape). IsNode s f.node) (sym shape) exists in
+    let word = address (shape_in t) (node_next f.node) in
+    let others = all_left (NotOf M t cs going.course ts has word) (all_changes cs) t.hand.changes
+    (subst (All (NotOf M t cs going.course ts has word)) (changes_are M t cs going.course ts has) (unchanged M t cs going.course ts has word unwritten)) in
+    fact_along h f is_node cs
+    (all_of (LeavesNext h f is_node) (all_changes cs) (λ c among. inr (λ e. All-contains (NotOf M t cs going.course ts has word) (all_changes cs) c others among
+    (e ∙ ap (λ (s : Shape). address s (node_next f.node)) shape))))
+    (all_of (IsOther h f is_node) (all_nodes cs) (λ n among. (
+      subst (λ (s : Shape). IsNode s n.node) (sym shape) (All-contains (λ (m : NewNode). IsNode (shape_in t) m.node) (all_nodes cs) n (new_exist M lawful t cs going) among),
+      λ same.
+          let free = new_free M lawful t cs going n among u later prepared h of in
+          let there = holds.placed in
+          absurd (cc (free, there, same)),
+    )))
+    holds
 
 module _ (M : Meaning) (lawful : Lawful M) (lists : HasListsOf M) (t : TxnState) (head key : ℕ) (visited : List ℕ) (prev : ℕ) (at next : Seen)
     (on : IsOn M t head key visited prev at next) (marked : is_marked next.value ≡ true) where
@@ -119,6 +172,27 @@ module _ (M : Meaning) (lawful : Lawful M) (lists : HasListsOf M) (t : TxnState)
     where
       placed_or_not : (o : Option Structure) → o ≡ Some list → o ≡ None → ⊥
       placed_or_not o a b = cc (a, b)
+
+  -- after the ended operations the mark stands there: if it is own, they made it, since unlinks make none
+  own_after : next.own ≡ true → Known M t (λ u h. next_of (after_wholes h cs).words node ≡ next.value)
+  own_after is_own u later prepared h of =
+      let slot = on.gave.slot is_own in
+      let course = stands.walking.going.course in
+      let shape = shape_known M lawful t u later prepared h of in
+      let last = All-contains (λ (w : Write). last_new (all_changes cs ++ t.hand.changes) w.word ≡ Some w.new) (writes_in t) slot.write course.changes.last slot.among in
+      let made = sym (last_append (all_changes cs) (changes_of_tidy stands.walking.changes) slot.write.word)
+      ∙ ap (λ l. last_new (all_changes cs ++ l) slot.write.word) stands.walking.tidied.changes ∙ last in
+      let before = earlier_mark (last_new (changes_of_tidy stands.walking.changes) slot.write.word) (last_new (all_changes cs) slot.write.word) slot.write.new
+      (unlinks_unmarked (shape_in t) list head stands.walking.changes stands.walking.unlinks slot.write.word) (ap is_marked slot.value ∙ marked) made in
+      ap (λ (s : Shape). (after_wholes h cs).words.value (next_word s node)) (wholes_shape h cs ∙ shape)
+      ∙ ap (after_wholes h cs).words.value (sym slot.there) ∙ course.last h shape slot.write.word slot.write.new before ∙ slot.value
+
+  other_after : next.own ≡ false → Known M t (λ u h. next_of (after_wholes h cs).words node ≡ next.value)
+  other_after other u later prepared h of = (fact_unwritten M lawful t cs stands.walking.going stands.walking.changes stands.walking.tidied
+      (next_fact list node next.value) on.exists (sym on.gave.own ∙ other) (next_fact_known other) u later prepared h of).next.0
+
+  pub mark_after : Known M t (λ u h. next_of (after_wholes h cs).words node ≡ next.value)
+  mark_after = ⊎_elim own_after other_after (cases_Bool next.own)
 
   -- after the tidy changes so far the mark stands there
   pub next_fact_holds : Known M t (λ u h. Holds (tidied h cs stands.walking.changes) (next_fact list node next.value))

@@ -37,7 +37,11 @@ pub even_is_unmarked : (value : ℕ) → value % 2 ≢ 1 → is_marked value ≡
 unfolding is_marked
 even_is_unmarked value even = ne_eqb (value % 2) 1 even
 
--- the value that names a node
+-- the value that names a node, and the one that names it with a mark
 pub link_is : (node : ℕ) → link_value node false ≡ node * 2
 unfolding link_value
 link_is node = omega arith
+
+pub marked_link : (node : ℕ) → link_value node true ≡ node * 2 + 1
+unfolding link_value
+marked_link node = omega arith

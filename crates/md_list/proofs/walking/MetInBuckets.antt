@@ -10,7 +10,7 @@ use Rattle.md_machine.specs.Meaning.{Meaning}
 use Rattle.md_nbtc_law.specs.Known.{WasThere}
 use Rattle.md_list_law.specs.Certificates.{key_fact, node_fact}
 use Rattle.md_list_law.specs.HasLists.{HasListsOf}
-use Rattle.md_list_law.specs.ListShape.{IsIn, IsList, Names, NamesAbove, head_word, next_word}
+use Rattle.md_list_law.specs.ListShape.{IsIn, IsList, IsOnward, Names, NamesOnward, head_word, next_word}
 
 module _ (M : Meaning) (lists : HasListsOf M) (h : LogicalHeap) (map bucket : ℕ) (is_map : map < h.words.shape.maps) (is_bucket : bucket < h.words.shape.buckets) where
   abbrev list : Structure
@@ -45,9 +45,9 @@ module _ (M : Meaning) (lists : HasListsOf M) (h : LogicalHeap) (map bucket : �
         ⊎_elim inl (λ placed. inr (still_in word value was (linked_node value) placed).0) (subst (Names was.heap list) is stood.first),
       )
 
-  -- in the next word of a node of the bucket: no node, or one with a greater key
+  -- in the next word of a node of the bucket: no node, or one whose key is onward
   pub met_in_next : (node value : ℕ) → IsNode h.words.shape node → WasThere M h (next_word h.words.shape node) value → IsIn h list node
-      → NamesAbove h list (h.words.key_of node) value
+      → NamesOnward h list (h.words.key_of node) value
   met_in_next node value exists was placed =
       let word = next_word h.words.shape node in
       let stood = bucket_then word value was in
@@ -60,5 +60,9 @@ module _ (M : Meaning) (lists : HasListsOf M) (h : LogicalHeap) (map bucket : �
       ⊎_elim inl
       (λ above.
       let stays = still_in word value was (linked_node value) above.0 in
-      inr (stays.0, subst (λ k. k < h.words.key_of (linked_node value)) (sym key) (subst (λ k. was.heap.words.key_of node < k) (sym stays.1) above.1)))
-      (subst (NamesAbove was.heap list (was.heap.words.key_of node)) is (stood.rises node there))
+      inr (
+        stays.0,
+        subst (λ k. IsOnward (is_marked value) k (h.words.key_of (linked_node value))) (sym key)
+            (subst (IsOnward (is_marked value) (was.heap.words.key_of node)) (sym stays.1) above.1),
+      ))
+      (subst (NamesOnward was.heap list (was.heap.words.key_of node)) is (stood.rises node there))

@@ -1,6 +1,6 @@
 -- A walk begins at the head, and looks at the next word of the node that its word names.
-use Rattle.std.proofs.Common.{◌≡◌, ◌≢◌, ◌⊎◌, ◌<◌, ℕ, false, List, [], refl, sym, ap, ◌∙◌, subst, inl, inr, ⊎_elim, arith}
-use Rattle.std.specs.List.{All, Contains}
+use Rattle.std.proofs.Common.{◌≡◌, ◌≢◌, ◌⊎◌, ℕ, false, List, [], refl, sym, ◌∙◌, subst, inl, inr, ⊎_elim}
+use Rattle.std.specs.List.{Contains}
 use Rattle.std.proofs.lemmas.List.Elements.{All-contains, All-nil}
 use Rattle.md_words.specs.Layout.{IsNode}
 use Rattle.md_words.specs.Link.{linked_node}
@@ -22,12 +22,13 @@ use Rattle.md_rule.specs.Views.{PassState}
 use Rattle.md_nbtc_law.proofs.preparing.Heaps.{known_now}
 use Rattle.md_nbtc_law.proofs.preparing.Later.{known_later}
 use Rattle.md_list_law.specs.HasLists.{HasListsOf}
-use Rattle.md_list_law.specs.ListShape.{IsIn, next_word}
+use Rattle.md_list_law.specs.ListShape.{IsIn, IsRank, Precedes, next_word}
 use Rattle.md_list_law.proofs.Links.{head_is_no_next}
+use Rattle.md_list_law.proofs.Order.{precedes_itself}
 use Rattle.md_list.specs.Walking.{IsWalking}
-use Rattle.md_list.proofs.walking.At.{IsAt, IsAtBy, NamesPast, before_on, found_stays, head_in_place, looked_there, node_exists, stepped, walking_on}
+use Rattle.md_list.proofs.walking.At.{AreBefore, IsAt, IsAtBy, NamesPast, before_on, found_stays, head_in_place, looked_there, node_exists, stepped, walking_on}
 use Rattle.md_list.proofs.walking.ListWords.{next_place as list_next_place}
-use Rattle.md_list.proofs.walking.Rising.{head_names}
+use Rattle.md_list.proofs.walking.Rising.{head_names, order_known}
 
 module _ (M : Meaning) where
   -- the walk stands at a word that names a node, and looked at the node's next word
@@ -35,7 +36,7 @@ module _ (M : Meaning) where
     pub stands : IsAt M t head key visited prev at
     pub exists : IsNode (shape_in t) (linked_node at.value)
     pub placed : Known M t (λ u h. IsIn (after_wholes h stands.walking.certificates) (Bucket stands.walking.map stands.walking.bucket) (linked_node at.value))
-    pub past : Known M t (λ u h. All (λ node. (after_wholes h stands.walking.certificates).words.key_of node < (after_wholes h stands.walking.certificates).words.key_of (linked_node at.value)) visited)
+    pub past : Known M t (λ u h. AreBefore (after_wholes h stands.walking.certificates) (Bucket stands.walking.map stands.walking.bucket) visited (linked_node at.value))
     pub gave : Gave t (next_word (shape_in t) (linked_node at.value)) next
     pub there : IsFoundThere M t (next_word (shape_in t) (linked_node at.value)) next
     pub found : next.own ≡ false → ((n : OwnNode) × Contains t.nodes n × (n.node ≡ linked_node at.value)) ⊎ FoundNext (shape_in t) t.pass.view (linked_node at.value) next.value
@@ -62,7 +63,7 @@ module _ (M : Meaning) where
             exist = All-nil (IsNode (shape_in t));
             differ = no_pairs (λ (a b : ℕ). a ≢ b);
             named = λ v later prepared h of. ⊎_elim inl
-                (λ placed. inr (placed, All-nil (λ node. (after_wholes h w.certificates).words.key_of node < (after_wholes h w.certificates).words.key_of (linked_node seen.value))))
+                (λ placed. inr (placed, λ rank ranks. All-nil (λ node. Precedes (after_wholes h w.certificates) rank node (linked_node seen.value))))
                 (names v later prepared h of).1;
           },
           refl,
@@ -78,7 +79,7 @@ module _ (M : Meaning) where
       pub named_placed : Known M t (λ u h. IsIn (after_wholes h stands.walking.certificates) list node)
       named_placed u later prepared h of = ⊎_elim (λ none. absurd (some none)) (λ named. named.0) (stands.named u later prepared h of)
 
-      named_past : Known M t (λ u h. All (λ other. (after_wholes h stands.walking.certificates).words.key_of other < (after_wholes h stands.walking.certificates).words.key_of node) visited)
+      named_past : Known M t (λ u h. AreBefore (after_wholes h stands.walking.certificates) list visited node)
       named_past u later prepared h of = ⊎_elim (λ none. absurd (some none)) (λ named. named.1) (stands.named u later prepared h of)
 
       pub named_exists : IsNode (shape_in t) node
@@ -87,10 +88,17 @@ module _ (M : Meaning) where
       -- it isn't among those that were visited
       pub not_visited : (other : ℕ) → Contains visited other → other ≢ node
       not_visited other among same =
-          let now = known_now M lawful _ t stands.walking.certificates stands.walking.going named_past in
-          let less = All-contains (λ x. (after_wholes now.0 stands.walking.certificates).words.key_of x < (after_wholes now.0 stands.walking.certificates).words.key_of node) visited other now.2 among in
-          let keys = ap (after_wholes now.0 stands.walking.certificates).words.key_of same in
-          absurd (omega (arith, less, keys))
+          let cs = stands.walking.certificates in
+          let now = known_now M lawful (λ u h. AreBefore (after_wholes h cs) list visited node × ((rank : ℕ → ℕ) × IsRank (after_wholes h cs) list rank)) t cs stands.walking.going
+          (λ u later prepared h of. (
+            named_past u later prepared h of,
+            order_known M lawful lists t stands.walking.map stands.walking.bucket stands.walking.is_head.is_map
+                stands.walking.is_head.is_bucket cs stands.walking.going u later prepared h of,
+          )) in
+          let k = after_wholes now.0 cs in
+          let order = now.2.1 in
+          let before = All-contains (λ x. Precedes k order.0 x node) visited other (now.2.0 order.0 order.1) among in
+          precedes_itself k order.0 node (subst (λ x. Precedes k order.0 x node) same before)
 
       -- so its next word isn't the one at which the walk stands
       pub next_apart : prev ≢ next_word (shape_in t) node
@@ -128,8 +136,7 @@ module _ (M : Meaning) where
           stands = stands_on p on (next_word (shape_in t) node) next_apart given;
           exists = named_exists;
           placed = known_later M (λ u h. IsIn (after_wholes h stands.walking.certificates) list node) t (stepped t p) on.later named_placed;
-          past = known_later M (λ u h. All (λ other. (after_wholes h stands.walking.certificates).words.key_of other < (after_wholes h stands.walking.certificates).words.key_of node) visited)
-              t (stepped t p) on.later named_past;
+          past = known_later M (λ u h. AreBefore (after_wholes h stands.walking.certificates) list visited node) t (stepped t p) on.later named_past;
           gave = looks.gave;
           there = looked_there M t p (next_word (shape_in t) node) next looks next_place;
           found = λ other. ⊎_elim

@@ -2,7 +2,7 @@
 
 use crate::tests::shown::{are_alike, same};
 use md_book::{Command, order_name};
-use md_orders::{Scripts, make, read_orders};
+use md_orders::{Maker, Scripts, make, read_orders};
 use std::process::Abort;
 
 // Three lines were made, and there is none before them and none behind.
@@ -20,6 +20,24 @@ fn made_scripts_are_those_of_a_file(rt: HostRuntime) {
     has_three_lines(&rt, &made);
     let orders = b"1,P,1758,S,41,52\n1,P,1010,S,17,87\n1,P,1767,B,1,26\n";
     are_alike(&rt, Ok(made), read_orders(alloc, orders, 1));
+}
+
+// A caller and a line, and whether scripts have the command there.
+fn in_scripts(scripts: &Scripts, made: (u32, u32, Command)) -> (u32, u32, bool) {
+    let (caller, line, command) = made;
+    (caller, line, scripts.command(caller, line) == Some(command))
+}
+
+#[test]
+fn commands_are_made_in_turn(rt: HostRuntime) {
+    let scripts = make(rt.alloc(), 7, 4, 3).expect(&rt, "memory");
+    let mut maker = Maker::new(7, 3);
+    let first = in_scripts(&scripts, maker.next());
+    let second = in_scripts(&scripts, maker.next());
+    let third = in_scripts(&scripts, maker.next());
+    let fourth = in_scripts(&scripts, maker.next());
+    let want = [(1, 1, true), (2, 1, true), (3, 1, true), (1, 2, true)];
+    same(&rt, &[first, second, third, fourth], &want);
 }
 
 // The order that a line of the first caller cancels.

@@ -3,9 +3,9 @@ use Rattle.std.proofs.Common.{◌≡◌, ℕ, suc, ◌+◌, ◌<◌, ◌⊎◌, 
 use Rattle.std.specs.List.{All, slice_get}
 use Rattle.std.proofs.lemmas.Bool.{both_ways, not-true}
 use Rattle.std.proofs.lemmas.List.{set-get_or}
-use Rattle.std.proofs.lemmas.List.Elements.{All-nil, All-cons, All-head, All-tail}
+use Rattle.std.proofs.lemmas.List.Elements.{All-head, All-tail}
 use Rattle.md_history.specs.declared.acts.Op.{Op}
-use Rattle.md_history.specs.declared.acts.Op.TheVariants.{Get, Insert, Remove, Enqueue, Dequeue, Front, Line}
+use Rattle.md_history.specs.declared.acts.Op.TheVariants.{Get, Insert, Remove, Put, Enqueue, Dequeue, Front, Line}
 use Rattle.md_history.specs.declared.acts.Reply.TheVariants.{Value, Line as TheLine}
 use Rattle.md_history.specs.State.{State, queue_at, with_queue, line_of, answer, after}
 use Rattle.md_machine.specs.declared.certificate.Certificate.{Certificate}
@@ -16,7 +16,7 @@ use Rattle.md_machine.specs.LogicalHeap.{LogicalHeap, Holds, after_nodes}
 use Rattle.md_machine.specs.Meaning.{Stands, TidyStands, after_certificate, after_tidy}
 use Rattle.md_queue_law.specs.QueueShape.{link, IsOf, QueuesStand}
 use Rattle.md_queue_law.specs.QueueValues.{queue_values, queue_lists}
-use Rattle.md_queue_law.specs.QueueCertificates.{head_is, next_is, head_change, next_change, new_node, has_key, has_value, has_next, next_words, Enqueues, Dequeues, FindsFirst, FindsNone, LooksAlong, CertifiesOp, CertifiesQueue, MovesTail}
+use Rattle.md_queue_law.specs.QueueCertificates.{head_is, next_is, head_change, next_change, new_node, has_key, has_value, has_next, Enqueues, Dequeues, FindsFirst, FindsNone, LooksAlong, CertifiesOp, CertifiesQueue, MovesTail}
 use Rattle.md_queue_law.specs.Laws.Walk.{ranked_values}
 use Rattle.md_queue_law.specs.Laws.Agreement.{PlacedExist, agree_itself}
 use Rattle.md_queue_law.specs.Laws.Lists.{queue_list}
@@ -26,11 +26,6 @@ use Rattle.md_queue_law.specs.Laws.RootChanges.{after_change, after_lists, head_
 use Rattle.md_queue_law.specs.Laws.Heads.{values_none, first_of}
 use Rattle.md_queue_law.specs.Laws.Appending.{append_follows}
 use Rattle.md_queue_law.specs.Laws.Looking.{IsThere, first_values}
-
--- the parts of a list of which something holds
-all_parts : {X : Type 0} (P : X → Type 0) (xs ys : List X) → All P (xs ++ ys) → All P xs × All P ys
-all_parts P [] ys all = (All-nil P, all)
-all_parts P (x ∷ xs) ys all = let r = all_parts P xs ys (All-tail P x (xs ++ ys) all) in (All-cons P x xs (All-head P x (xs ++ ys) all) r.0, r.1)
 
 -- the first and the second of a list of which something holds
 first_holds : {X : Type 0} (P : X → Type 0) (x : X) (xs ys : List X) → ys ≡ x ∷ xs → All P ys → P x
@@ -111,10 +106,12 @@ module _ (h : LogicalHeap) (exist : PlacedExist h) (stand : QueuesStand h) (queu
 
     dequeue_follows : (c : Certificate) → Dequeues h.words.shape queue c → Stands h c → OpFollows h s (Dequeue queue) c
     dequeue_follows c e stands =
-        let fact = first_holds (Holds h) (has_value queue e.first e.value) [] c.facts e.facts stands.facts in
+        let goes = has_next queue e.dummy (link e.first) in
+        let has = has_value queue e.first e.value in
+        let next = (first_holds (Holds h) goes (has ∷ []) c.facts e.facts stands.facts).next.0 in
+        let fact = second_holds (Holds h) goes has [] c.facts e.facts stands.facts in
         let change = head_change h.words.shape queue (link e.dummy) (link e.first) in
         let named = first_holds (IsOld h) change [] c.changes e.changes stands.old in
-        let next = first_holds (IsThere h) (next_is h.words.shape e.dummy (link e.first)) [] c.recorded e.recorded stands.recorded in
         let first = first_of h queue (stand queue within) e.dummy named e.first fact.placed next in
         let rank = suc (h.words.key_of e.dummy) in
         let rest = ranked_values h.words (stand queue within).node_of (suc rank) first.left in
@@ -142,12 +139,12 @@ module _ (h : LogicalHeap) (exist : PlacedExist h) (stand : QueuesStand h) (queu
 
     front_reply : (c : Certificate) → FindsFirst h.words.shape queue c → Stands h c → c.reply ≡ Value (slice_get (queue_at s queue) 0)
     front_reply c e stands =
-        let fact = first_holds (Holds h) (has_value queue e.first e.value) [] c.facts e.facts stands.facts in
-        let head = head_is h.words.shape queue (link e.dummy) in
-        let next = next_is h.words.shape e.dummy (link e.first) in
-        let named = first_holds (IsThere h) head (next ∷ []) c.recorded e.recorded stands.recorded in
-        let goes = second_holds (IsThere h) head next [] c.recorded e.recorded stands.recorded in
-        let first = first_of h queue (stand queue within) e.dummy named e.first fact.placed goes in
+        let goes = has_next queue e.dummy (link e.first) in
+        let has = has_value queue e.first e.value in
+        let next = (first_holds (Holds h) goes (has ∷ []) c.facts e.facts stands.facts).next.0 in
+        let fact = second_holds (Holds h) goes has [] c.facts e.facts stands.facts in
+        let named = first_holds (IsThere h) (head_is h.words.shape queue (link e.dummy)) [] c.recorded e.recorded stands.recorded in
+        let first = first_of h queue (stand queue within) e.dummy named e.first fact.placed next in
         e.reply ∙ ap (λ v. Value (Some v)) (sym fact.value) ∙ sym (ap (λ vs. Value (slice_get vs 0)) (values_at ∙ first.values))
 
     none_reply : (c : Certificate) → FindsNone h.words.shape queue c → Stands h c → queue_values h.words queue ≡ []
@@ -161,12 +158,10 @@ module _ (h : LogicalHeap) (exist : PlacedExist h) (stand : QueuesStand h) (queu
     line_reply : (n : ℕ) (c : Certificate) → LooksAlong h.words.shape queue n c → Stands h c → c.reply ≡ TheLine (line_of (take n (queue_at s queue)))
     line_reply n c e stands =
         let head = head_is h.words.shape queue (link e.dummy) in
-        let along = next_words h.words.shape e.dummy e.seen in
-        let named = first_holds (IsThere h) head (along ++ e.ending) c.recorded e.recorded stands.recorded in
-        let there = All-tail (IsThere h) head (along ++ e.ending) (subst (All (IsThere h)) e.recorded stands.recorded) in
-        let parts = all_parts (IsThere h) along e.ending there in
+        let named = first_holds (IsThere h) head e.ending c.recorded e.recorded stands.recorded in
+        let at_end = All-tail (IsThere h) head e.ending (subst (All (IsThere h)) e.recorded stands.recorded) in
         let facts = subst (All (Holds h)) e.facts stands.facts in
-        let values = first_values h queue (stand queue within) e.dummy n e.seen e.ending named e.ends parts.0 parts.1 facts in
+        let values = first_values h queue (stand queue within) e.dummy n e.seen e.ending named e.ends at_end facts in
         e.reply ∙ ap (λ vs. TheLine (line_of vs)) (values ∙ ap (take n) (sym values_at))
 
     -- a certificate of each operation on the queue
@@ -198,6 +193,7 @@ op_follows : (op : Op) (h : LogicalHeap) (c : Certificate) (s : State) → Place
 op_follows (Get map key) h c s exist stand queues e stands = absurd e
 op_follows (Insert map key value) h c s exist stand queues e stands = absurd e
 op_follows (Remove map key) h c s exist stand queues e stands = absurd e
+op_follows (Put map key value) h c s exist stand queues e stands = absurd e
 op_follows (Enqueue queue value) h c s exist stand queues e stands = enqueue_follows h exist stand queue e.0 s queues value c e.1 stands
 op_follows (Dequeue queue) h c s exist stand queues e stands = taken_follows h exist stand queue e.0 s queues c e.1 stands
 op_follows (Front queue) h c s exist stand queues e stands = front_follows h exist stand queue e.0 s queues c e.1 stands

@@ -4,11 +4,10 @@ use Rattle.std.specs.List.{All}
 use Rattle.std.proofs.lemmas.List.{take_all}
 use Rattle.std.proofs.lemmas.List.Elements.{All-head, All-tail}
 use Rattle.md_machine.specs.LogicalHeap.{LogicalWords, LogicalHeap, Holds, next_of}
-use Rattle.md_machine.specs.declared.certificate.Fact.{Fact}
 use Rattle.md_machine.specs.declared.certificate.WordValue.{WordValue}
 use Rattle.md_queue_law.specs.QueueShape.{link, head_of, IsOf, QueueShape}
 use Rattle.md_queue_law.specs.QueueValues.{queue_values}
-use Rattle.md_queue_law.specs.QueueCertificates.{Seen, next_is, has_value, next_words, last_seen, LooksEnough, LooksToEnd}
+use Rattle.md_queue_law.specs.QueueCertificates.{Seen, next_is, has_next, has_value, facts_along, last_seen, LooksEnough, LooksToEnd}
 use Rattle.md_queue_law.specs.Laws.Words.{link_not_zero}
 use Rattle.md_queue_law.specs.Laws.Walk.{ranked_values}
 use Rattle.md_queue_law.specs.Laws.Agreement.{queue_values-line, past}
@@ -31,27 +30,22 @@ length-ranked_values w node_of rank zero = refl
 length-ranked_values w node_of rank (suc left) = ap suc (length-ranked_values w node_of (suc rank) left)
 
 module _ (h : LogicalHeap) (queue : ℕ) (s : QueueShape h queue) where
-  abbrev fact_of : Seen → Fact
-  fact_of x = has_value queue x.node x.value
-
   -- where a look from a node has come to
   record CameTo (from : ℕ) (seen : List Seen) : Type 0 where
     of : IsOf h queue (last_seen from seen)
     rank : h.words.key_of (last_seen from seen) ≡ h.words.key_of from + length seen
     values : map (λ x. x.value) seen ≡ ranked_values h.words s.node_of (suc (h.words.key_of from)) (length seen)
 
-  came_to : (seen : List Seen) (from : ℕ) → IsOf h queue from → All (IsThere h) (next_words h.words.shape from seen) → All (Holds h) (map fact_of seen)
-      → CameTo from seen
-  came_to [] from of there facts = record { of = of; rank = omega arith; values = refl }
-  came_to (x ∷ seen) from of there facts =
-      let fact = All-head (Holds h) (fact_of x) (map fact_of seen) facts in
-      let e : next_of h.words from ≡ link x.node
-      = All-head (IsThere h) (next_is h.words.shape from (link x.node)) (next_words h.words.shape x.node seen) there in
+  came_to : (seen : List Seen) (from : ℕ) → IsOf h queue from → All (Holds h) (facts_along queue from seen) → CameTo from seen
+  came_to [] from of facts = record { of = of; rank = omega arith; values = refl }
+  came_to (x ∷ seen) from of facts =
+      let along = has_value queue x.node x.value ∷ facts_along queue x.node seen in
+      let later_facts = All-tail (Holds h) (has_next queue from (link x.node)) along facts in
+      let fact = All-head (Holds h) (has_value queue x.node x.value) (facts_along queue x.node seen) later_facts in
+      let e : next_of h.words from ≡ link x.node = (All-head (Holds h) (has_next queue from (link x.node)) along facts).next.0 in
       let goes = goes_to_next h queue s.count s.node_of s.line from x.node of e (link_not_zero h.words.shape x.node (s.line.exist x.node fact.placed)) in
       let key : h.words.key_of x.node ≡ suc (h.words.key_of from) = ap h.words.key_of goes.1 ∙ (s.line.placed (suc (h.words.key_of from)) goes.0).1 in
-      let later = came_to seen x.node fact.placed
-      (All-tail (IsThere h) (next_is h.words.shape from (link x.node)) (next_words h.words.shape x.node seen) there)
-      (All-tail (Holds h) (fact_of x) (map fact_of seen) facts) in
+      let later = came_to seen x.node fact.placed (All-tail (Holds h) (has_value queue x.node x.value) (facts_along queue x.node seen) later_facts) in
       let rank = later.rank in
       record {
         of = later.of;
@@ -64,11 +58,11 @@ module _ (h : LogicalHeap) (queue : ℕ) (s : QueueShape h queue) where
   -- a look that begins at the head sees the first values
   pub first_values : (dummy n : ℕ) (seen : List Seen) (ending : List WordValue) → head_of h.words queue ≡ link dummy
       → LooksEnough n seen ending ⊎ LooksToEnd h.words.shape dummy n seen ending
-      → All (IsThere h) (next_words h.words.shape dummy seen) → All (IsThere h) ending → All (Holds h) (map fact_of seen)
+      → All (IsThere h) ending → All (Holds h) (facts_along queue dummy seen)
       → map (λ x. x.value) seen ≡ take n (queue_values h.words queue)
-  first_values dummy n seen ending named ends there at_end facts =
+  first_values dummy n seen ending named ends at_end facts =
       let of = dummy_is_of h queue s dummy named in
-      let came = came_to seen dummy of there facts in
+      let came = came_to seen dummy of facts in
       let rest = past h queue s.count s.node_of s.line dummy of in
       let left = rest.0 in let left_is = rest.1 in
       let whole : queue_values h.words queue ≡ ranked_values h.words s.node_of (suc (h.words.key_of dummy)) left

@@ -2,10 +2,10 @@
 use Rattle.std.proofs.Common.{◌≡◌, ◌≢◌, ℕ, ◌+◌, ◌<◌, List, [], ◌∷◌, Some, None, eqb, not, eq-eqb, refl, sym, ap, ◌∙◌, subst, inl, inr, ⊎_elim, arith}
 use Rattle.std.specs.List.{All}
 use Rattle.std.proofs.lemmas.Bool.{both_ways}
-use Rattle.std.proofs.lemmas.List.Elements.{All-head}
+use Rattle.std.proofs.lemmas.List.Elements.{All-head, All-tail}
 use Rattle.md_words.specs.Layout.{IsNode}
 use Rattle.md_history.specs.declared.acts.Op.{Op}
-use Rattle.md_history.specs.declared.acts.Op.TheVariants.{Get, Insert, Remove, Enqueue, Dequeue, Front, Line}
+use Rattle.md_history.specs.declared.acts.Op.TheVariants.{Get, Insert, Remove, Put, Enqueue, Dequeue, Front, Line}
 use Rattle.md_machine.specs.declared.node.Structure.{Structure}
 use Rattle.md_machine.specs.declared.node.Structure.TheVariants.{Queue}
 use Rattle.md_machine.specs.declared.certificate.Certificate.{Certificate}
@@ -85,7 +85,8 @@ module _ (own h : LogicalHeap) (queue : ℕ) (within : queue < h.words.shape.que
   dequeue_rises : (q : ℕ) (c : Certificate) → q < h.words.shape.queues → Dequeues h.words.shape q c → StandsBy own h c
       → QueueRises (after_certificate own c) (after_certificate h c) queue
   dequeue_rises q c below e stands =
-      let fact = All-head (Holds h) (has_value q e.first e.value) [] (subst (All (Holds h)) e.facts stands.facts) in
+      let has = has_value q e.first e.value in
+      let fact = All-head (Holds h) has [] (All-tail (Holds h) (has_next q e.dummy (link e.first)) (has ∷ []) (subst (All (Holds h)) e.facts stands.facts)) in
       let change = head_change h.words.shape q (link e.dummy) (link e.first) in
       rises_by own h queue c (change ∷ []) [] e.changes e.nodes (both_changed own h queue b change (record {
         in_head = λ at. (e.first, subst (λ x. IsOf h x e.first) (head_same h.words.shape q queue below within at) fact.placed, refl);
@@ -119,6 +120,7 @@ module _ (own h : LogicalHeap) (queue : ℕ) (within : queue < h.words.shape.que
   op_rises (Get map key) c e stands = absurd e
   op_rises (Insert map key value) c e stands = absurd e
   op_rises (Remove map key) c e stands = absurd e
+  op_rises (Put map key value) c e stands = absurd e
   op_rises (Enqueue q value) c e stands = enqueue_rises q value c e.1 stands
   op_rises (Dequeue q) c e stands = ⊎_elim (λ d. dequeue_rises q c e.0 d stands) (λ n. rises_by own h queue c [] [] n.changes n.nodes b) e.1
   op_rises (Front q) c e stands = ⊎_elim (λ f. rises_by own h queue c [] [] f.changes f.nodes b) (λ n. rises_by own h queue c [] [] n.changes n.nodes b) e.1

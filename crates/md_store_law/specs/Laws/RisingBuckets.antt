@@ -7,7 +7,7 @@ use Rattle.md_words.specs.Place.{Place, bucket_head, queue_head, queue_tail, nod
 use Rattle.md_words.specs.Layout.{address, Exists}
 use Rattle.md_words.proofs.Places.{address_differs}
 use Rattle.md_history.specs.declared.acts.Op.{Op}
-use Rattle.md_history.specs.declared.acts.Op.TheVariants.{Get, Insert, Remove, Enqueue, Dequeue, Front, Line}
+use Rattle.md_history.specs.declared.acts.Op.TheVariants.{Get, Insert, Remove, Put, Enqueue, Dequeue, Front, Line}
 use Rattle.md_machine.specs.declared.node.Structure.TheVariants.{Bucket, Queue}
 use Rattle.md_machine.specs.declared.certificate.Certificate.{Certificate}
 use Rattle.md_machine.specs.declared.certificate.Change.{Change}
@@ -68,6 +68,7 @@ module _ (own h : LogicalHeap) (map bucket : ℕ) (m : map < h.words.shape.maps)
   op_rises (Get map key) c e stands = absurd e
   op_rises (Insert map key value) c e stands = absurd e
   op_rises (Remove map key) c e stands = absurd e
+  op_rises (Put map key value) c e stands = absurd e
   op_rises (Enqueue q value) c e stands = enqueue_rises q value c e.1 stands
   op_rises (Dequeue q) c e stands = ⊎_elim (λ d. dequeue_rises q c e.0 d stands) (λ n. nothing_rises c n.changes n.nodes) e.1
   op_rises (Front q) c e stands = ⊎_elim (λ f. nothing_rises c f.changes f.nodes) (λ n. nothing_rises c n.changes n.nodes) e.1

@@ -16,8 +16,7 @@ use Rattle.md_machine.specs.LogicalHeap.{LogicalHeap, IsNoUnplacedNext, IsPlaced
 use Rattle.md_machine.specs.Meaning.{Lawful, Stands, TidyStands, Follows, NamesPlaced, after_certificate, after_tidy}
 use Rattle.md_list_law.specs.ListShape.{head_word}
 use Rattle.md_list_law.specs.HasLists.{HasListsOf}
-use Rattle.md_list_law.proofs.Chains.{names_above}
-use Rattle.md_list_law.proofs.Pairs.{rises_of}
+use Rattle.md_list_law.proofs.Order.{onward_names}
 use Rattle.md_list_law.proofs.ListKept.{pairs_same}
 use Rattle.md_list_law.proofs.Standing.{row_after, unlink_after}
 use Rattle.md_list_law.proofs.Framing.{same_framed, names_placed}
@@ -131,7 +130,7 @@ next_names : (h : LogicalHeap) → IsStore h → (node : ℕ) (s : Structure) �
     → NamesPlaced h (h.words.value (address h.words.shape (node_next node)))
 next_names h v node s at = ⊎_elim
     (λ t. let is = (v.buckets t.0 t.1 t.2 t.3).list in let list = Bucket t.0 t.1 in
-    names_placed h list _ (names_above h list (rises_of h list (head_word h.words.shape t.0 t.1) is) _ _ (is.rises node (at ∙ ap (λ (x : Structure). Some x) t.4))))
+    names_placed h list _ (onward_names h list _ _ (is.rises node (at ∙ ap (λ (x : Structure). Some x) t.4))))
     (λ t. next_names_placed h t.0 (v.queues t.0 t.1) node (at ∙ ap (λ (x : Structure). Some x) t.2))
     (v.alone node s at)
 

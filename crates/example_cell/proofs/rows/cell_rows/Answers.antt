@@ -6,7 +6,7 @@ use Rattle.md_words.specs.declared.shape.Shape.{Shape}
 use Rattle.md_words.specs.Content.{count_of, is_even}
 use Rattle.md_words.specs.Layout.{words_of}
 use Rattle.md_history.specs.declared.acts.Op.{Op}
-use Rattle.md_history.specs.declared.acts.Op.TheVariants.{Get, Insert, Remove}
+use Rattle.md_history.specs.declared.acts.Op.TheVariants.{Get, Insert, Remove, Put}
 use Rattle.example_cell.specs.CellMeaning.{IsOnCell, cell_reply, cell_left, CellCertifies}
 use Rattle.example_cell.specs.CellRows.{looks, sets, one_transaction}
 use Rattle.example_cell.proofs.rows.cell_rows.Goals as goal
@@ -26,7 +26,7 @@ returns-clause-row c shape = All-from_recursion (CellCertifies shape) (one_trans
       looks_certify shape (Get 0 0) 11 tt refl,
       (
         looks_certify shape (Insert 0 0 7) 11 tt refl,
-        (sets_certify shape (Remove 0 0) 11 tt, tt),
+        (sets_certify shape (Put 0 0 7) 11 tt, (sets_certify shape (Remove 0 0) 8 tt, tt)),
       ),
     ),
   ),

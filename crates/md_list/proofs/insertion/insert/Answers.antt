@@ -1,4 +1,4 @@
-use Rattle.std.proofs.Common.{◌≡◌, ◌≢◌, ◌∙◌, ◌*◌, ℕ, Bool, false, sym, ap, subst, inl, inr, arith, None, Some, Err, Ok}
+use Rattle.std.proofs.Common.{◌≡◌, ◌≢◌, ◌∙◌, ◌*◌, ℕ, Bool, false, true, sym, ap, subst, inl, inr, arith, None, Some, Err, Ok}
 use Rattle.md_history.specs.declared.acts.Op.TheVariants.{Insert}
 use Rattle.md_history.specs.declared.acts.Reply.TheVariants.{Flag}
 use Rattle.md_list_law.specs.ListShape.{next_word}
@@ -20,10 +20,10 @@ use Rattle.md_machine.specs.Certified.{content_read}
 use Rattle.md_nbtc_law.proofs.structures.Noting.{HasNoted}
 use Rattle.md_list.specs.Refusals.{IsAbsent, NeedsNode, NeedsRead, NeedsSlot, OneMoreChange, OneMoreRead, WalkNeedsSlot}
 use Rattle.md_list.specs.Walking.{IsHeadOf}
-use Rattle.md_list.proofs.charges.Adding.{adds_node, adds_note, adds_stop, goes_over, leaves_more, leaves_within, nodes_kept, reads_kept}
+use Rattle.md_list.proofs.charges.Adding.{adds_node, adds_note, adds_stop, goes_over, leaves_more, leaves_within, nodes_kept, reads_kept, sets_kept}
 use Rattle.md_list.proofs.changes.Critical.{adds_change}
 use Rattle.md_list.proofs.answers.Getting.{noted_ok}
-use Rattle.md_list.proofs.answers.Inserting.{inserted, linked, may_link, needs_link}
+use Rattle.md_list.proofs.answers.Inserting.{insert_adds, inserted, linked, may_link, needs_link}
 use Rattle.md_list.proofs.answers.LookUps.{answered_so, found_exists, here_node, is_absent_there, needs_read, shows_there}
 use Rattle.md_list.proofs.changes.Noted.{NotesOnly, notes_only}
 use Rattle.md_list.proofs.refusals.Refused.{exchange_full, exchange_reads, exchange_unstopped, fresh_limit, note_full, note_limit, note_unstopped, reads_or_writes, refused_by, refused_else, refused_never, refused_within, no_refusal}
@@ -62,7 +62,7 @@ returns-then-found-clause-answer g c map is cs going =
     let f = c.in_ok-found.ensures.found (begun_walks M s map c.args.key c.args.head c.requires.begun is cs going) in
     let word = c.node_next-next_word.result in
     let word_is = c.node_next-next_word.ensures.place ∙ ap (λ x. address x (node_next found.node)) c.shape.ensures in
-    by_same M s t u f.0.walking.certificates cs map c.args.key f.1 (reads_kept M s t 0 0 c.in_ok-found.ensures.leaves)
+    by_same M s t u f.0.walking.certificates cs map c.args.key f.1 (sets_kept M s t 0 c.in_ok-found.ensures.leaves)
     (answered_so M g.T.Theory.lawful g.met.T.HasLists.has_lists t c.args.head c.args.key found f.0 map
     (subst (λ x. IsHeadOf x map c.args.key c.args.head) (sym (shape_later s t c.in_ok-found.ensures.leaves.on.later)) is)
     (λ m. Insert m c.args.key c.args.value) (Flag false) (next_word (shape_in t) found.node) found.next
@@ -91,7 +91,7 @@ exchange-requires-clause-may g c =
     let u = state c.take_node.new.tx in
     let fresh = after_ok ℕ t u t.stop c.in_ok-node.node (Freshened t u c.args.key c.args.value c.in_ok-found.found.at.value (Ok c.in_ok-node.node)) c.in_ok-node.ensures.fresh in
     subst (λ x. MayExchange M u c.in_ok-found.found.prev c.in_ok-found.found.at x Critical) (link_is c.in_ok-node.node)
-    (may_link M g.T.Theory.lawful g.met.T.HasLists.has_lists t c.args.head c.args.key c.in_ok-found.found (found_of g.T.Theory.meaning (state c.args.tx.now) (state c.find.new.tx) c.args.head c.args.key c.in_ok-found.found c.in_ok-found.ensures.found c.requires.begun c.requires.head) c.if-found.false c.args.value u c.in_ok-node.ensures.on
+    (may_link M g.T.Theory.lawful g.met.T.HasLists.has_lists t c.args.head c.args.key c.in_ok-found.found (found_of g.T.Theory.meaning (state c.args.tx.now) (state c.find.new.tx) c.args.head c.args.key c.in_ok-found.found c.in_ok-found.ensures.found c.requires.begun c.requires.head) c.if-found.false c.args.value (λ m. Insert m c.args.key c.args.value) (Flag true) (insert_adds c.args.key c.args.value) u c.in_ok-node.ensures.on
     c.in_ok-node.node fresh c.in_ok-node.ensures.given)
 
 pub returns-in_err-found-clause-leaves : goal.returns-in_err-found-clause-leaves
@@ -214,7 +214,7 @@ returns-clause-leaves g c =
     let node = c.in_ok-node.node in
     let seen = c.in_ok-exchange.field-0 in
     let fresh = after_ok ℕ t u t.stop node (Freshened t u c.args.key c.args.value found.at.value (Ok node)) c.in_ok-node.ensures.fresh in
-    let did = linked M g.T.Theory.lawful g.met.T.HasLists.has_lists t c.args.head c.args.key found (found_of g.T.Theory.meaning (state c.args.tx.now) (state c.find.new.tx) c.args.head c.args.key c.in_ok-found.found c.in_ok-found.ensures.found c.requires.begun c.requires.head) c.if-found.false c.args.value u c.in_ok-node.ensures.on
+    let did = linked M g.T.Theory.lawful g.met.T.HasLists.has_lists t c.args.head c.args.key found (found_of g.T.Theory.meaning (state c.args.tx.now) (state c.find.new.tx) c.args.head c.args.key c.in_ok-found.found c.in_ok-found.ensures.found c.requires.begun c.requires.head) c.if-found.false c.args.value (λ m. Insert m c.args.key c.args.value) (Flag true) (insert_adds c.args.key c.args.value) u c.in_ok-node.ensures.on
     node fresh c.in_ok-node.ensures.given v c.in_ok-exchange.ensures.on seen
     (subst (λ x. HasExchanged M u found.prev found.at x Critical v seen) (sym (link_is node)) (exchanged_ok M u v found.prev found.at (node * 2) Critical seen c.in_ok-exchange.ensures.exchanged)) in
     leaves_within M s v 0 1 1 1 1 1 (omega arith) (omega arith) (omega arith) (leaves_more M s u v 0 0 1 0 1 0
@@ -262,8 +262,8 @@ returns-clause-answer g c map is cs going =
     let node = c.in_ok-node.node in
     let seen = c.in_ok-exchange.field-0 in
     let fresh = after_ok ℕ t u t.stop node (Freshened t u c.args.key c.args.value found.at.value (Ok node)) c.in_ok-node.ensures.fresh in
-    by_same M s t v f.0.walking.certificates cs map c.args.key f.1 (reads_kept M s t 0 0 c.in_ok-found.ensures.leaves)
-    (inserted M g.T.Theory.lawful g.met.T.HasLists.has_lists t c.args.head c.args.key found f.0 c.if-found.false c.args.value u c.in_ok-node.ensures.on
+    by_same M s t v f.0.walking.certificates cs map c.args.key f.1 (sets_kept M s t 0 c.in_ok-found.ensures.leaves)
+    (inserted M g.T.Theory.lawful g.met.T.HasLists.has_lists t c.args.head c.args.key found f.0 c.if-found.false c.args.value (λ m. Insert m c.args.key c.args.value) (Flag true) (insert_adds c.args.key c.args.value) u c.in_ok-node.ensures.on
     node fresh c.in_ok-node.ensures.given v c.in_ok-exchange.ensures.on seen
     (subst (λ x. HasExchanged M u found.prev found.at x Critical v seen) (sym (link_is node)) (exchanged_ok M u v found.prev found.at (node * 2) Critical seen c.in_ok-exchange.ensures.exchanged))
     (omega arith) map (subst (λ x. IsHeadOf x map c.args.key c.args.head) (sym (shape_later s t c.in_ok-found.ensures.leaves.on.later)) is))
@@ -427,7 +427,7 @@ returns-in_err-exchange-clause-no_slot g c =
     let full = exchange_full M u v stop found.prev found.at (node * 2) Critical by
     (exchange_unstopped M u v stop found.prev found.at (node * 2) Critical (ap (λ x. x.stop) fresh.new ∙ none.1) exchanged) in
     inr (subst (λ ds. OneMoreChange M u ds map c.args.key (Insert map c.args.key c.args.value)) f.1
-    (needs_link M g.T.Theory.lawful g.met.T.HasLists.has_lists t c.args.head c.args.key found f.0 c.if-found.false c.args.value u c.in_ok-node.ensures.on node fresh c.in_ok-node.ensures.given
+    (needs_link M g.T.Theory.lawful g.met.T.HasLists.has_lists t c.args.head c.args.key found f.0 c.if-found.false c.args.value (λ m. Insert m c.args.key c.args.value) (Flag true) (insert_adds c.args.key c.args.value) u c.in_ok-node.ensures.on node fresh c.in_ok-node.ensures.given
     (omega arith) full.0 map (subst (λ x. IsHeadOf x map c.args.key c.args.head) (sym (shape_later s t leaves.on.later)) is))))
 
 pub returns-in_err-exchange-clause-no_node : goal.returns-in_err-exchange-clause-no_node

@@ -20,7 +20,8 @@ use Rattle.md_nbtc_law.proofs.structures.Noting.{HasNoted}
 use Rattle.md_nbtc.specs.State.{state}
 use Rattle.md_list.specs.Refusals.{NeedsRead, NeedsUnlink, OneMoreRead, WalkNeedsSlot}
 use Rattle.md_list.specs.Walking.{IsHeadOf}
-use Rattle.md_list.proofs.charges.Adding.{adds_note, adds_steps, goes_over, leaves_more, leaves_within, reads_kept}
+use Rattle.md_list.proofs.charges.Adding.{adds_note, adds_steps, goes_over, leaves_more, leaves_within, reads_kept, sets_kept}
+use Rattle.md_list.proofs.charges.Charging.{sets_read}
 use Rattle.md_list.proofs.answers.FoundOn.{found_on}
 use Rattle.md_list.proofs.answers.Getting.{is_absent, is_there, noted_ok, value_data}
 use Rattle.md_list.proofs.answers.LookUps.{answered_so, found_exists, here_node, needs_read, shows_absent, shows_value}
@@ -93,7 +94,7 @@ returns-then-not-found-clause-answer g c map is cs going =
     let f = c.in_ok-found.ensures.found (begun_walks M s map c.args.key c.args.head c.requires.begun is cs going) in
     let has = f.0 in
     let absent = is_absent found.here c.if-not-found.true in
-    by_same M s t u has.walking.certificates cs map c.args.key f.1 (reads_kept M s t 0 0 c.in_ok-found.ensures.leaves)
+    by_same M s t u has.walking.certificates cs map c.args.key f.1 (sets_kept M s t 0 c.in_ok-found.ensures.leaves)
     (answered_so M g.T.Theory.lawful g.met.T.HasLists.has_lists t c.args.head c.args.key found has map
     (subst (λ x. IsHeadOf x map c.args.key c.args.head) (sym (shape_later s t c.in_ok-found.ensures.leaves.on.later)) is) (λ m. Get m c.args.key) (Value None) found.prev found.at
     (shows_absent M g.T.Theory.lawful g.met.T.HasLists.has_lists t c.args.head c.args.key found has absent (Get has.walking.map c.args.key) refl (λ d op reply changes records. get_none op reply changes records))
@@ -113,7 +114,7 @@ returns-clause-answer g c map is cs going =
     let word = c.node_next-next_word.result in
     let word_is = c.node_next-next_word.ensures.place ∙ ap (λ y. address y (node_next found.node)) c.shape-2.ensures in
     let shape = shape_later t x on.later in
-    by_same M s x u h.0.walking.certificates cs map c.args.key (h.1 ∙ f.1) (ap (λ y. y.reads) c.field_of-value.ensures.same ∙ reads_kept M s t 0 0 c.in_ok-found.ensures.leaves)
+    by_same M s x u h.0.walking.certificates cs map c.args.key (h.1 ∙ f.1) (sets_read s t x (sets_kept M s t 0 c.in_ok-found.ensures.leaves) c.field_of-value.ensures.same)
     (answered_so M g.T.Theory.lawful g.met.T.HasLists.has_lists x c.args.head c.args.key found h.0 map
     (subst (λ y. IsHeadOf y map c.args.key c.args.head) (sym (shape_later s x (later_over s t x c.in_ok-found.ensures.leaves.on.later on.later))) is)
     (λ m. Get m c.args.key) (Value (Some c.field_of-value.result)) (next_word (shape_in x) found.node) found.next

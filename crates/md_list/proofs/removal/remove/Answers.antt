@@ -19,7 +19,8 @@ use Rattle.md_list_law.specs.Certificates.{remove_none}
 use Rattle.md_list.specs.Refusals.{NeedsRead, NeedsSlot, OneMoreChange, OneMoreRead, WalkNeedsSlot}
 use Rattle.md_list.specs.Walking.{IsHeadOf}
 use Rattle.md_list.proofs.answers.FoundOn.{found_on}
-use Rattle.md_list.proofs.charges.Adding.{adds_cleanup, adds_note, adds_steps, goes_over, leaves_more, leaves_on, leaves_within, reads_kept}
+use Rattle.md_list.proofs.charges.Adding.{adds_cleanup, adds_note, adds_steps, goes_over, leaves_more, leaves_on, leaves_within, reads_kept, sets_kept}
+use Rattle.md_list.proofs.charges.Charging.{sets_read}
 use Rattle.md_list.proofs.changes.Critical.{adds_change}
 use Rattle.md_list.proofs.answers.Getting.{is_absent, is_there, noted_ok, value_data}
 use Rattle.md_list_law.specs.ListShape.{next_word}
@@ -49,7 +50,7 @@ returns-then-not-found-clause-answer g c map is cs going =
     let u = state c.note.new.self in
     let found = c.in_ok-found.found in
     let f = c.in_ok-found.ensures.found (begun_walks M s map c.args.key c.args.head c.requires.begun is cs going) in
-    by_same M s t u f.0.walking.certificates cs map c.args.key f.1 (reads_kept M s t 0 0 c.in_ok-found.ensures.leaves)
+    by_same M s t u f.0.walking.certificates cs map c.args.key f.1 (sets_kept M s t 0 c.in_ok-found.ensures.leaves)
     (answered_so M g.T.Theory.lawful g.met.T.HasLists.has_lists t c.args.head c.args.key found f.0 map
     (subst (λ x. IsHeadOf x map c.args.key c.args.head) (sym (shape_later s t c.in_ok-found.ensures.leaves.on.later)) is) (λ m. Remove m c.args.key) (Value None) found.prev found.at
     (shows_absent M g.T.Theory.lawful g.met.T.HasLists.has_lists t c.args.head c.args.key found f.0 (is_absent found.here c.if-not-found.true) (Remove f.0.walking.map c.args.key) refl
@@ -111,7 +112,7 @@ returns-clause-answer g c map is cs going =
     let on = c.field_of-value.ensures.on in
     let shape = shape_later t v on.later in
     by_same M s v (state c.later.new.self) has.walking.certificates cs map c.args.key (on_value.1 ∙ f.1)
-    (ap (λ x. x.reads) c.field_of-value.ensures.same ∙ reads_kept M s t 0 0 c.in_ok-found.ensures.leaves)
+    (sets_read s t v (sets_kept M s t 0 c.in_ok-found.ensures.leaves) c.field_of-value.ensures.same)
     (removed M g.T.Theory.lawful g.met.T.HasLists.has_lists v c.args.head c.args.key c.in_ok-found.found has (is_there c.in_ok-found.found.here c.if-not-found.false) u c.in_ok-mark.ensures.on
     c.in_ok-mark.field-0 c.in_ok-mark.ensures.gave
     (exchanged_ok M v u (next_word (shape_in v) c.in_ok-found.found.node) c.in_ok-found.found.next (c.in_ok-found.found.next.value + 1) Critical c.in_ok-mark.field-0 c.in_ok-mark.ensures.exchanged)

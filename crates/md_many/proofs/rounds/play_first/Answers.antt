@@ -1,4 +1,4 @@
-use Rattle.std.proofs.Common.{◌≡◌, ◌+◌, ◌≤◌, ◌<◌, ◌∷◌, [], ℕ, zero, suc, List, length, refl, sym, ap, ◌∙◌, arith}
+use Rattle.std.proofs.Common.{◌≡◌, ◌+◌, ◌≤◌, ◌<◌, ◌∷◌, [], ℕ, zero, suc, List, length, refl, sym, ap, ◌∙◌, arith, refl}
 use Rattle.std.specs.Prelude.{◌-◌, ◌==◌, false, slice_index_or}
 use Rattle.std.proofs.lemmas.Bool.{eq-eqb, ne_eqb, false≢true}
 use Rattle.std.proofs.lemmas.Result.{on_ok_weaker}
@@ -74,4 +74,5 @@ returns g c =
           let some = c.in_ok-list.ensures.enough.first fresh course.runs.tries small
           (omega (arith, at, left.left, c.first_attempts.ensures)) in
           on_ok_weaker c.keep_lines.result (λ _. ne_eqb _ 0 (λ none. omega (arith, some, none, c.len.ensures))) kept;
+      fronts = refl;
     }

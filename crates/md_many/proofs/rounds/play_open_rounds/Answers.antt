@@ -4,6 +4,7 @@ use Rattle.std.proofs.lemmas.Result.{IfOk-from_err}
 use Rattle.md_history.specs.Engine.{empty_front}
 use Rattle.md_many_attempts.specs.ByCaller.{at_caller}
 use Rattle.md_many.proofs.Coursing.{stands-first, whole-count, all-played, are-interleaving}
+use Rattle.md_many.proofs.Rounding.{left-none}
 use Rattle.md_many.proofs.rounds.play_open_rounds.Goals as goal
 
 pub rounds-init : goal.rounds-init
@@ -23,6 +24,12 @@ rounds-init g c =
       };
       keeper = c.requires.keeper;
       callers = omega (arith, zeros, c.callers.type_inv);
+      fronts = rw (c.new.ensures.items, c.in_ok-none_done.ensures, c.callers.ensures)
+          (omega (
+            arith,
+            left-none (g.L.Lines.line_count c.args.play.now.lines.now)
+                (g.L.Lines.caller_count c.args.play.now.lines.now),
+          ));
       count = zeros ∙ c.callers.ensures;
     }
 
@@ -33,6 +40,7 @@ rounds-preserved g c =
       course = round.course;
       keeper = c.play_round.ensures.keeper;
       callers = subst (λ n. n < 2 ^ 32) (sym round.callers) c.rounds.invariant.callers;
+      fronts = omega (arith, round.fronts, c.rounds.invariant.fronts);
       count = round.callers ∙ c.rounds.invariant.count;
     }
 
@@ -53,6 +61,7 @@ returns g c =
           (are-interleaving _ _ _
           (all-played course.stands course.laws c.pass_is_legal.ensures closed.last _ closed.settled closed.replay
           all).each);
+      fronts = omega (arith, c.rounds.invariant.fronts);
     }
 
 pub returns-in_err-none_done : goal.returns-in_err-none_done
@@ -63,6 +72,7 @@ returns-in_err-none_done g c =
       each_line_once = IfOk-from_err _ _ err;
       gate = IfOk-from_err _ _ err;
       interleaving = IfOk-from_err _ _ err;
+      fronts = IfOk-from_err _ _ err;
     }
 
 pub returns-in_err-course : goal.returns-in_err-course
@@ -73,4 +83,5 @@ returns-in_err-course g c =
       each_line_once = IfOk-from_err _ _ err;
       gate = IfOk-from_err _ _ err;
       interleaving = IfOk-from_err _ _ err;
+      fronts = IfOk-from_err _ _ err;
     }

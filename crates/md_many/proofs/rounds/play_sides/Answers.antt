@@ -1,4 +1,4 @@
-use Rattle.std.proofs.Common.{◌∙◌, sym}
+use Rattle.std.proofs.Common.{◌∙◌, refl, sym}
 use Rattle.std.proofs.lemmas.List.{length-map}
 use Rattle.std.proofs.lemmas.Result.{IfOk-from_err}
 use Rattle.md_many_attempts.specs.declared.batches.Played.{Played}
@@ -48,6 +48,7 @@ returns g c =
       };
       keeper = λ other line r suits. c.keep_turns.ensures.can_keep other line r (c.requires.keeper other line r suits);
       no_more = record { callers = rw whole kept.callers; kept = rw whole further.1 };
+      fronts = refl;
     }
 
 pub returns-in_err-turns : goal.returns-in_err-turns
@@ -57,6 +58,7 @@ returns-in_err-turns g c =
       course = IfOk-from_err _ _ err;
       keeper = c.requires.keeper;
       no_more = IfOk-from_err _ _ err;
+      fronts = IfOk-from_err _ _ err;
     }
 
 pub returns-in_err-keep_turns : goal.returns-in_err-keep_turns
@@ -66,4 +68,5 @@ returns-in_err-keep_turns g c =
       course = IfOk-from_err _ _ err;
       keeper = λ other line r suits. c.keep_turns.ensures.can_keep other line r (c.requires.keeper other line r suits);
       no_more = IfOk-from_err _ _ err;
+      fronts = IfOk-from_err _ _ err;
     }

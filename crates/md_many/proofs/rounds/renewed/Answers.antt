@@ -1,6 +1,6 @@
-use Rattle.std.proofs.Common.{rules, ◌≡◌, ◌∙◌, sym}
+use Rattle.std.proofs.Common.{rules, ◌≡◌, ◌∙◌, ap, arith, length, sym}
 use Rattle.std.proofs.lemmas.Bool.{false≢true}
-use Rattle.std.proofs.lemmas.List.{map_push}
+use Rattle.std.proofs.lemmas.List.{length_push, map_push}
 use Rattle.std.proofs.lemmas.Result.{IfOk-from_err}
 use Rattle.md_history.specs.Engine.{empty_front}
 use Rattle.md_many.proofs.Coursing.{has-room, stands-renewed}
@@ -33,6 +33,8 @@ returns-in_err-engine g c =
       done = IfOk-from_err _ _ err;
       fresh = λ worn. IfOk-from_err _ _ err;
       empty = λ worn. IfOk-from_err _ _ err;
+      fronts = IfOk-from_err _ _ err;
+      kept = λ awake. IfOk-from_err _ _ err;
     }
 
 pub returns-in_err-push : goal.returns-in_err-push
@@ -43,6 +45,8 @@ returns-in_err-push g c =
       done = IfOk-from_err _ _ err;
       fresh = λ worn. IfOk-from_err _ _ err;
       empty = λ worn. IfOk-from_err _ _ err;
+      fronts = IfOk-from_err _ _ err;
+      kept = λ awake. IfOk-from_err _ _ err;
     }
 
 pub returns-then-not-course-clause-fresh : goal.returns-then-not-course-clause-fresh
@@ -50,3 +54,10 @@ returns-then-not-course-clause-fresh g c = search rules depth 1
 
 pub returns-then-not-course-clause-empty : goal.returns-then-not-course-clause-empty
 returns-then-not-course-clause-empty g c = λ worn. absurd (false≢true (sym c.if-not-course.true ∙ worn))
+
+pub returns-clause-fronts : goal.returns-clause-fronts
+returns-clause-fronts g c =
+    omega (arith, ap length c.in_ok-push.ensures.items, length_push c.args.course.fronts.items c.in_ok-engine.front)
+
+pub returns-clause-kept : goal.returns-clause-kept
+returns-clause-kept g c = λ awake. absurd (false≢true (sym awake ∙ c.if-not-course.false))

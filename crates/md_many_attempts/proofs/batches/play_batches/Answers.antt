@@ -1,10 +1,11 @@
-use Rattle.std.proofs.Common.{◌≡◌, ◌+◌, ◌≤◌, length, refl, sym, ap, subst, ◌∙◌, arith}
+use Rattle.std.proofs.Common.{◌≡◌, ◌≤◌, length, refl, sym, ap, subst, ◌∙◌, arith}
 use Rattle.std.proofs.lemmas.List.{length-append}
 use Rattle.std.proofs.lemmas.Result.{IfOk-from_err}
-use Rattle.md_many_attempts.specs.Turns.{EndsBy}
+use Rattle.md_many_attempts.specs.Batches.{EndsPart}
+use Rattle.md_many_attempts.specs.Meaning.{meaning_of}
 use Rattle.md_many_attempts.proofs.Playing.{attempted-none, played-none}
 use Rattle.md_many_attempts.proofs.Following.{plays-then, attempted-then}
-use Rattle.md_many_attempts.proofs.Ending.{told-then, ends-then}
+use Rattle.md_many_attempts.proofs.Ending.{told-then, ends-then, vain-none, vain-then}
 use Rattle.md_many_attempts.proofs.batches.play_batches.Goals as goal
 
 pub batches-init : goal.batches-init
@@ -18,6 +19,9 @@ batches-init g c = record {
   done = omega (arith, ap length c.new-replies.ensures);
   within = c.requires.turn.done;
   gate = λ line after before. absurd (omega arith);
+  vain = vain-none _ _ _ _ _ _ _ c.requires.of c.new-replies.ensures c.new-streak.ensures;
+  calm = omega (arith, c.new-streak.ensures);
+  most = omega arith;
   each = omega (arith, ap length c.new-replies.ensures);
   counted = refl;
 }
@@ -26,16 +30,16 @@ batches-init g c = record {
 pub batches-preserved : goal.batches-preserved
 batches-preserved g c =
     let was = c.batches.invariant in
-    let pass = c.attempt_lines.ensures.pass in
-    let more = c.attempt_lines.ensures.turn in
+    let pass = c.attempt_batch.ensures.pass in
+    let more = c.attempt_batch.ensures.turn in
     let all = c.in_ok-append.ensures in
-    let count = ap length all ∙ length-append (g.T.ReplyList.listed c.batches.replies) c.attempt_lines.new.replies.items in
-    let len : c.len.result ≡ length c.attempt_lines.new.replies.items =
-    c.len.ensures ∙ c.attempt_lines.new.replies.ok.0 in
-    let all_attempts : g.E.Engine.begun c.attempt_lines.new.pass
-    ≡ g.E.Engine.begun c.batches.pass + c.min-attempts.result =
-    subst (EndsBy (g.L.Lines.line_count c.args.lines.now) (g.E.Engine.may_stop c.args.engine.now) _ _ _ _)
-    c.in-Attempts.is c.in_ok-end.ensures.end.end in
+    let count = ap length all ∙ length-append (g.T.ReplyList.listed c.batches.replies) c.attempt_batch.new.replies.items in
+    let len : c.len.result ≡ length c.attempt_batch.new.replies.items =
+    c.len.ensures ∙ c.attempt_batch.new.replies.ok.0 in
+    let whole = subst (λ end. EndsPart g.E.Engine c.args.engine.now (meaning_of g.L.B.Body g.L.Lines c.args.lines.now)
+    (record { caller = c.args.turn.caller; done = c.batches.done; attempts = c.min-attempts.result })
+    c.batches.streak.conflicts c.batches.pass c.attempt_batch.new.pass c.attempt_batch.new.replies.items end
+    c.in_ok-end.after.conflicts) c.in-Attempts.is c.in_ok-end.ensures.end.end in
     record {
       of = pass.of;
       fated = c.pass_is_legal-in-batches.ensures.legal.fated;
@@ -52,17 +56,20 @@ batches-preserved g c =
       within = omega (arith, len, more.within);
       gate = told-then _ _ c.batches.done _ was.gate
           (λ line after before. more.gate line after (omega (arith, before, len)));
+      vain = rw all (vain-then _ _ _ _ _ _ _ _ _ _ _ _ was.lines was.lanes was.fated was.done was.vain _ whole.in_row);
+      calm = whole.few;
+      most = omega (arith, count, was.most, whole.most);
       each = omega (arith, count, was.each, more.begun.each);
-      counted = omega (arith, was.counted, all_attempts, c.min-attempts.ensures);
+      counted = omega (arith, was.counted, whole.all, c.min-attempts.ensures);
     }
 
 pub returns-in_default : goal.returns-in_default
 returns-in_default g c =
     let was = c.batches.invariant in
-    let pass = c.attempt_lines.ensures.pass in
-    let more = c.attempt_lines.ensures.turn in
+    let pass = c.attempt_batch.ensures.pass in
+    let more = c.attempt_batch.ensures.turn in
     let all = c.in_ok-append.ensures in
-    let count = ap length all ∙ length-append (g.T.ReplyList.listed c.batches.replies) c.attempt_lines.new.replies.items in
+    let count = ap length all ∙ length-append (g.T.ReplyList.listed c.batches.replies) c.attempt_batch.new.replies.items in
     record {
       pass = record {
         of = pass.of;
@@ -82,17 +89,13 @@ returns-in_default g c =
         begun = record {
           each = omega (arith, count, was.each, more.begun.each);
           most = omega (arith, was.counted, more.begun.most, c.min-attempts.ensures);
+          calm = omega (arith, count, was.most, c.in_ok-end.ensures.calm);
         };
         gate = λ line after before. told-then _ _ c.batches.done _ was.gate more.gate line after
             (omega (arith, before, count, was.done));
       };
-      end = rw count
-          (ends-then (g.L.Lines.line_count c.args.lines.now) (g.E.Engine.may_stop c.args.engine.now) c.args.turn
-          (record { caller = c.args.turn.caller; done = c.batches.done; attempts = c.min-attempts.result })
-          (length (g.T.ReplyList.listed c.batches.replies)) (length c.attempt_lines.new.replies.items)
-          (g.E.Engine.begun c.args.pass.now) (g.E.Engine.begun c.batches.pass)
-          (g.E.Engine.begun c.attempt_lines.new.pass) c.in_ok-end.end refl was.done was.each c.in_default.not-Attempts
-          c.in_ok-end.ensures.end.end);
+      end = rw all (ends-then _ _ _ _ _ _ _ _ _ _ _ _ was.lines was.lanes was.fated was.done was.vain _ _
+          c.in_default.not-Attempts c.in_ok-end.ensures.end.end);
     }
 
 pub returns-in_err-batch : goal.returns-in_err-batch
@@ -108,7 +111,7 @@ returns-in_err-batch g c =
 pub returns-in_err-end : goal.returns-in_err-end
 returns-in_err-end g c =
     let was = c.batches.invariant in
-    let pass = c.attempt_lines.ensures.pass in
+    let pass = c.attempt_batch.ensures.pass in
     let err = c.from_residual-in_err-end.ensures.0 in
     record {
       pass = record { of = pass.of; lanes = pass.lanes ∙ was.lanes; pending = pass.pending ∙ was.pending };
@@ -119,7 +122,7 @@ returns-in_err-end g c =
 pub returns-in_err-append : goal.returns-in_err-append
 returns-in_err-append g c =
     let was = c.batches.invariant in
-    let pass = c.attempt_lines.ensures.pass in
+    let pass = c.attempt_batch.ensures.pass in
     let err = c.from_residual-in_err-append.ensures.0 in
     record {
       pass = record { of = pass.of; lanes = pass.lanes ∙ was.lanes; pending = pass.pending ∙ was.pending };
@@ -137,7 +140,7 @@ returns g c =
         within = omega (arith, was.done, was.within);
         few = omega (arith, was.done, was.within, c.len-count.ensures);
         attempts = omega (arith, was.attempts);
-        begun = record { each = was.each; most = omega (arith, was.counted) };
+        begun = record { each = was.each; most = omega (arith, was.counted); calm = omega (arith, was.most, was.calm) };
         gate = λ line after before. was.gate line after (subst (λ n. line ≤ n) (sym was.done) before);
       };
       end = omega (arith, was.counted, c.batches-test.false);

@@ -5,14 +5,14 @@ pub returns-then-conflicts-eq-MOST_CONFLICTS-clause-again : goal.returns-then-co
 returns-then-conflicts-eq-MOST_CONFLICTS-clause-again g = assumption
 
 pub returns-then-conflicts-eq-MOST_CONFLICTS-clause-end : goal.returns-then-conflicts-eq-MOST_CONFLICTS-clause-end
-returns-then-conflicts-eq-MOST_CONFLICTS-clause-end g = ((g.in-Conflict.field-0, g.in-Conflict.is), g.if-conflicts-eq-MOST_CONFLICTS.true)
+returns-then-conflicts-eq-MOST_CONFLICTS-clause-end g = ((g.in-Conflict.shown, g.in-Conflict.is), g.if-conflicts-eq-MOST_CONFLICTS.true)
 
 pub returns-then-conflicts-eq-MOST_CONFLICTS-clause-no_memory : goal.returns-then-conflicts-eq-MOST_CONFLICTS-clause-no_memory
 returns-then-conflicts-eq-MOST_CONFLICTS-clause-no_memory g = assumption
 
 pub returns-else-conflicts-eq-MOST_CONFLICTS-clause-again : goal.returns-else-conflicts-eq-MOST_CONFLICTS-clause-again
 returns-else-conflicts-eq-MOST_CONFLICTS-clause-again g = record {
-  shown = g.in-Conflict.field-0;
+  shown = g.in-Conflict.shown;
   met = g.in-Conflict.is;
   more = refl;
   calm = omega arith;

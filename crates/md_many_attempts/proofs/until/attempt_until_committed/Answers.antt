@@ -14,8 +14,8 @@ attempts-init g c = record {
   small = λ fresh tries small. refl;
 }
 
-pub returns-then-not-is_conflict : goal.returns-then-not-is_conflict
-returns-then-not-is_conflict g c =
+pub returns-in_default : goal.returns-in_default
+returns-in_default g c =
     let was = c.attempts.invariant in
     let end = c.attempt-end.ensures in
     let test = c.attempts-test.true in
@@ -28,7 +28,7 @@ returns-then-not-is_conflict g c =
       };
       of = end.of;
       begun = record {
-        begun = ends-attempts _ _ _ _ _ _ (c.is_conflict.ensures.other c.if-not-is_conflict.true) was.counted
+        begun = ends-attempts _ _ _ _ _ _ c.in_default.ensures.other was.counted
             (omega arith) end.begun;
         again = λ more. was.again (omega (arith, more, one, was.counted));
         once = λ all. omega (arith, one, was.counted, was.alone all);
@@ -42,7 +42,7 @@ pub attempts-preserved : goal.attempts-preserved
 attempts-preserved g c =
     let was = c.attempts.invariant in
     let end = c.attempt-end.ensures in
-    let meets = c.is_conflict.ensures.conflict c.if-not-is_conflict.false in
+    let meets = c.in-Some.ensures.conflict in
     let met = met-conflict c.attempt-end.result meets in
     record {
       of = end.of;

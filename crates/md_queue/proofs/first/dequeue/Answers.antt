@@ -1,22 +1,22 @@
 use Rattle.std.proofs.Common.{arith, ◌∙◌}
 use Rattle.md_nbtc.specs.State.{state}
 use Rattle.md_queue.specs.Operations.{RefusedOtherwise, words_recorded}
-use Rattle.md_queue.specs.Working.{first_words}
+use Rattle.md_queue.specs.Working.{none_words}
 use Rattle.md_queue.proofs.Among.{among_from, answered}
-use Rattle.md_queue.proofs.Firsts.{dequeue_none, first_among}
+use Rattle.md_queue.proofs.Firsts.{dequeue_none, none_among}
 use Rattle.md_queue.proofs.Steps.{goes_then, refused_then, refused_up, unstopped}
-use Rattle.std.proofs.Common.{inl, inr}
+use Rattle.std.proofs.Common.{inl, inr, refl}
 use Rattle.md_history.specs.declared.acts.Op.TheVariants.{Dequeue}
 use Rattle.md_history.specs.declared.stops.Limit.TheVariants.{Reads, Writes}
-use Rattle.md_queue.specs.Refusals.{AsksFront}
+use Rattle.md_queue.specs.Refusals.{AsksFor}
 use Rattle.md_queue.proofs.Refusing.{began_on, change_from, move_from, not_by, read_from, if_err, stays_on}
 use Rattle.std.proofs.lemmas.Result.{IfOk-from_err}
 use Rattle.md_queue.proofs.first.dequeue.Goals as goal
 
-pub note_first-requires : goal.note_first-requires
-note_first-requires g c =
+pub note_none-requires : goal.note_none-requires
+note_none-requires g c =
     let under = c.requires.begun.going in
-    record { sees = (under.0, c.in_ok-first.ensures.sees under.0 under.1) }
+    record { sees = (under.0, c.in_ok-first.ensures.sees under.0 under.1); none = c.if-first-eq0.true }
 
 pub follow_tail-requires-clause-sees : goal.follow_tail-requires-clause-sees
 follow_tail-requires-clause-sees g c =
@@ -33,13 +33,12 @@ returns-then-first-eq0-clause-answer g c =
     let M = g.T.Theory.meaning in
     let s = state c.args.tx.now in
     let t = state c.load_first.new.tx in
-    let u = state c.note_first.new.tx in
+    let u = state c.note_none.new.tx in
     let head = c.in_ok-first.first.head in
-    let goes = goes_then M s t u 0 0 0 2 0 0 2 0 0 c.in_ok-first.ensures.goes (λ _. c.in_ok-note_first.ensures.goes) (omega arith) (omega arith) (omega arith) in
-    answered (first_words u c.args.queue head) goes
-    (λ cs going. dequeue_none M g.T.Theory.lawful g.met.T.HasQueues.has_queues u c.args.queue cs head c.in_ok-first.first.next
-    (c.in_ok-note_first.ensures.noted cs (c.in_ok-first.ensures.sees cs going)) c.if-first-eq0.true)
-    (first_among M s t u c.args.queue head c.in_ok-first.ensures.goes c.in_ok-note_first.ensures.goes.leaves.on.later c.in_ok-note_first.ensures.among)
+    let goes = goes_then M s t u 0 0 0 2 0 0 2 0 0 c.in_ok-first.ensures.goes (λ _. c.in_ok-note_none.ensures.goes) (omega arith) (omega arith) (omega arith) in
+    answered (none_words u c.args.queue head) goes
+    (λ cs going. dequeue_none M g.met.T.HasQueues.has_queues u c.args.queue cs head (c.in_ok-note_none.ensures.noted cs (c.in_ok-first.ensures.sees cs going)))
+    (none_among M s t u c.args.queue head c.in_ok-first.ensures.goes c.in_ok-note_none.ensures.goes.leaves.on.later c.in_ok-note_none.ensures.among)
 
 pub returns-in_err-follow_tail-clause-stop : goal.returns-in_err-follow_tail-clause-stop
 returns-in_err-follow_tail-clause-stop g c =
@@ -59,7 +58,7 @@ returns-in_err-value-clause-stop g c =
     let u = state c.follow_tail.new.tx in
     let v = state c.take_first.new.tx in
     let stop = c.in_err-value.field-0.0 in
-    let refused : RefusedOtherwise M s v 2 2 stop = refused_then M s u v 0 1 1 1 2 2 stop
+    let refused : RefusedOtherwise M s v 2 2 stop = refused_then M s u v 0 1 0 1 2 2 stop
     (goes_then M s t u 0 0 0 0 1 0 0 1 0 c.in_ok-first.ensures.goes (λ _. c.in_ok-follow_tail.ensures.follows.goes) (omega arith) (omega arith) (omega arith)) (λ _. c.in_err-value.ensures.stop) (omega arith) (omega arith) in
     if_err c.from_residual-in_err-value.result stop _ c.from_residual-in_err-value.ensures.1 refused
 
@@ -72,7 +71,7 @@ returns-clause-answer g c =
     let v = state c.take_first.new.tx in
     let followed = goes_then M s t u 0 0 0 0 1 0 0 1 0 c.in_ok-first.ensures.goes (λ _. c.in_ok-follow_tail.ensures.follows.goes) (omega arith) (omega arith) (omega arith) in
     record {
-      goes = goes_then M s u v 0 1 0 1 1 0 1 2 0 followed (λ _. c.in_ok-value.ensures.takes.goes) (omega arith) (omega arith) (omega arith);
+      goes = goes_then M s u v 0 1 0 0 1 0 0 2 0 followed (λ _. c.in_ok-value.ensures.takes.goes) (omega arith) (omega arith) (omega arith);
       by = λ cs going.
           let taken = c.in_ok-value.ensures.takes.answer cs (c.in_ok-follow_tail.ensures.follows.sees cs (c.in_ok-first.ensures.sees cs going)) in
           record {
@@ -91,8 +90,8 @@ returns-then-first-eq0-clause-stopped g c s is = unstopped (state c.args.tx.now)
 pub returns-clause-stopped : goal.returns-clause-stopped
 returns-clause-stopped g c s is = unstopped (state c.args.tx.now) (state c.load_first.new.tx) c.in_ok-first.first c.in_ok-first.ensures.stopped s is
 
-pub returns-in_err-note_first-clause-stopped : goal.returns-in_err-note_first-clause-stopped
-returns-in_err-note_first-clause-stopped g c s is = unstopped (state c.args.tx.now) (state c.load_first.new.tx) c.in_ok-first.first c.in_ok-first.ensures.stopped s is
+pub returns-in_err-note_none-clause-stopped : goal.returns-in_err-note_none-clause-stopped
+returns-in_err-note_none-clause-stopped g c s is = unstopped (state c.args.tx.now) (state c.load_first.new.tx) c.in_ok-first.first c.in_ok-first.ensures.stopped s is
 
 pub returns-in_err-follow_tail-clause-stopped : goal.returns-in_err-follow_tail-clause-stopped
 returns-in_err-follow_tail-clause-stopped g c s is = unstopped (state c.args.tx.now) (state c.load_first.new.tx) c.in_ok-first.first c.in_ok-first.ensures.stopped s is
@@ -100,26 +99,26 @@ returns-in_err-follow_tail-clause-stopped g c s is = unstopped (state c.args.tx.
 pub returns-in_err-value-clause-stopped : goal.returns-in_err-value-clause-stopped
 returns-in_err-value-clause-stopped g c s is = unstopped (state c.args.tx.now) (state c.load_first.new.tx) c.in_ok-first.first c.in_ok-first.ensures.stopped s is
 
-pub returns-in_err-note_first-clause-stop : goal.returns-in_err-note_first-clause-stop
-returns-in_err-note_first-clause-stop g c =
+pub returns-in_err-note_none-clause-stop : goal.returns-in_err-note_none-clause-stop
+returns-in_err-note_none-clause-stop g c =
     let M = g.T.Theory.meaning in
     let s = state c.args.tx.now in
     let t = state c.load_first.new.tx in
-    let u = state c.note_first.new.tx in
-    let stop = c.in_err-note_first.field-0.0 in
-    let refused : RefusedOtherwise M s u 2 2 stop = refused_then M s t u 0 0 2 0 2 2 stop c.in_ok-first.ensures.goes (λ _. c.in_err-note_first.ensures.stop) (omega arith) (omega arith) in
-    if_err c.from_residual-in_err-note_first.result stop _ c.from_residual-in_err-note_first.ensures.1 refused
+    let u = state c.note_none.new.tx in
+    let stop = c.in_err-note_none.field-0.0 in
+    let refused : RefusedOtherwise M s u 2 2 stop = refused_then M s t u 0 0 2 0 2 2 stop c.in_ok-first.ensures.goes (λ _. c.in_err-note_none.ensures.stop) (omega arith) (omega arith) in
+    if_err c.from_residual-in_err-note_none.result stop _ c.from_residual-in_err-note_none.ensures.1 refused
 
-pub returns-in_err-note_first-clause-reads : goal.returns-in_err-note_first-clause-reads
-returns-in_err-note_first-clause-reads g c =
+pub returns-in_err-note_none-clause-reads : goal.returns-in_err-note_none-clause-reads
+returns-in_err-note_none-clause-reads g c =
     let M = g.T.Theory.meaning in
     let t = state c.args.tx.now in
     let u = state c.load_first.new.tx in
-    let v = state c.note_first.new.tx in
+    let v = state c.note_none.new.tx in
     let goes = c.in_ok-first.ensures.goes in
-    let stop = c.in_err-note_first.field-0.0 in
-    if_err c.from_residual-in_err-note_first.result stop _ c.from_residual-in_err-note_first.ensures.1 (λ limit began cs going. read_from M t u v 0 0 cs (AsksFront c.args.queue) goes
-    (c.in_err-note_first.ensures.reads limit (began_on M t u 0 0 0 goes began) cs (c.in_ok-first.ensures.sees cs going)))
+    let stop = c.in_err-note_none.field-0.0 in
+    if_err c.from_residual-in_err-note_none.result stop _ c.from_residual-in_err-note_none.ensures.1 (λ limit began cs going. read_from M t u v 0 0 cs (AsksFor (Dequeue c.args.queue)) goes
+    (c.in_err-note_none.ensures.reads limit (began_on M t u 0 0 0 goes began) cs (c.in_ok-first.ensures.sees cs going) (Dequeue c.args.queue) (inr refl)))
 
 pub returns-in_err-follow_tail-clause-writes : goal.returns-in_err-follow_tail-clause-writes
 returns-in_err-follow_tail-clause-writes g c =
@@ -138,11 +137,10 @@ returns-in_err-value-clause-reads g c =
     let s = state c.args.tx.now in
     let t = state c.load_first.new.tx in
     let u = state c.follow_tail.new.tx in
-    let v = state c.take_first.new.tx in
     let goes = goes_then M s t u 0 0 0 0 1 0 0 1 0 c.in_ok-first.ensures.goes (λ _. c.in_ok-follow_tail.ensures.follows.goes) (omega arith) (omega arith) (omega arith) in
     let stop = c.in_err-value.field-0.0 in
-    if_err c.from_residual-in_err-value.result stop _ c.from_residual-in_err-value.ensures.1 (λ limit began cs going. read_from M s u v 1 0 cs (AsksFront c.args.queue) goes
-    (c.in_err-value.ensures.reads limit (began_on M s u 0 1 0 goes began) cs (c.in_ok-follow_tail.ensures.follows.sees cs (c.in_ok-first.ensures.sees cs going))))
+    if_err c.from_residual-in_err-value.result stop _ c.from_residual-in_err-value.ensures.1
+    (λ limit began. not_by u stop (began_on M s u 0 1 0 goes began).unstopped (c.in_err-value.ensures.no_reads limit))
 
 pub returns-in_err-value-clause-writes : goal.returns-in_err-value-clause-writes
 returns-in_err-value-clause-writes g c =
@@ -156,14 +154,14 @@ returns-in_err-value-clause-writes g c =
     if_err c.from_residual-in_err-value.result stop _ c.from_residual-in_err-value.ensures.1 (λ limit began cs going. inr (change_from M s u v 1 0 cs (Dequeue c.args.queue) goes
     (c.in_err-value.ensures.writes limit (began_on M s u 0 1 0 goes began) cs (c.in_ok-follow_tail.ensures.follows.sees cs (c.in_ok-first.ensures.sees cs going)))))
 
-pub returns-in_err-note_first-clause-writes : goal.returns-in_err-note_first-clause-writes
-returns-in_err-note_first-clause-writes g c =
+pub returns-in_err-note_none-clause-writes : goal.returns-in_err-note_none-clause-writes
+returns-in_err-note_none-clause-writes g c =
     let M = g.T.Theory.meaning in
     let t = state c.args.tx.now in
     let u = state c.load_first.new.tx in
-    let stop = c.in_err-note_first.field-0.0 in
-    if_err c.from_residual-in_err-note_first.result stop _ c.from_residual-in_err-note_first.ensures.1
-    (λ limit began. not_by u stop (began_on M t u 0 0 0 c.in_ok-first.ensures.goes began).unstopped (c.in_err-note_first.ensures.no_writes limit))
+    let stop = c.in_err-note_none.field-0.0 in
+    if_err c.from_residual-in_err-note_none.result stop _ c.from_residual-in_err-note_none.ensures.1
+    (λ limit began. not_by u stop (began_on M t u 0 0 0 c.in_ok-first.ensures.goes began).unstopped (c.in_err-note_none.ensures.no_writes limit))
 
 pub returns-in_err-follow_tail-clause-reads : goal.returns-in_err-follow_tail-clause-reads
 returns-in_err-follow_tail-clause-reads g c =
@@ -174,11 +172,11 @@ returns-in_err-follow_tail-clause-reads g c =
     if_err c.from_residual-in_err-follow_tail.result stop _ c.from_residual-in_err-follow_tail.ensures.1
     (λ limit began. not_by u stop (began_on M t u 0 0 0 c.in_ok-first.ensures.goes began).unstopped (c.in_err-follow_tail.ensures.no_reads limit))
 
-pub returns-in_err-note_first-clause-pass : goal.returns-in_err-note_first-clause-pass
-returns-in_err-note_first-clause-pass g c = c.in_err-note_first.ensures.pass ∙ c.in_ok-first.ensures.pass
+pub returns-in_err-note_none-clause-pass : goal.returns-in_err-note_none-clause-pass
+returns-in_err-note_none-clause-pass g c = c.in_err-note_none.ensures.pass ∙ c.in_ok-first.ensures.pass
 
 pub returns-then-first-eq0-clause-pass : goal.returns-then-first-eq0-clause-pass
-returns-then-first-eq0-clause-pass g c = c.in_ok-note_first.ensures.pass ∙ c.in_ok-first.ensures.pass
+returns-then-first-eq0-clause-pass g c = c.in_ok-note_none.ensures.pass ∙ c.in_ok-first.ensures.pass
 
 pub returns-in_err-follow_tail-clause-pass : goal.returns-in_err-follow_tail-clause-pass
 returns-in_err-follow_tail-clause-pass g c = c.in_err-follow_tail.ensures.pass ∙ c.in_ok-first.ensures.pass
@@ -217,11 +215,11 @@ pub returns-in_err-first-clause-stopped : goal.returns-in_err-first-clause-stopp
 returns-in_err-first-clause-stopped g c = stays_on (state c.args.tx.now) (state c.load_first.new.tx) c.from_residual.result c.in_err-first.field-0.0 c.from_residual.ensures.1
     (c.in_err-first.ensures.stopped)
 
-pub returns-in_err-note_first-clause-answer : goal.returns-in_err-note_first-clause-answer
-returns-in_err-note_first-clause-answer g c = IfOk-from_err c.from_residual-in_err-note_first.result _ c.from_residual-in_err-note_first.ensures.0
+pub returns-in_err-note_none-clause-answer : goal.returns-in_err-note_none-clause-answer
+returns-in_err-note_none-clause-answer g c = IfOk-from_err c.from_residual-in_err-note_none.result _ c.from_residual-in_err-note_none.ensures.0
 
-pub returns-in_err-note_first-clause-tail : goal.returns-in_err-note_first-clause-tail
-returns-in_err-note_first-clause-tail g c = IfOk-from_err c.from_residual-in_err-note_first.result _ c.from_residual-in_err-note_first.ensures.0
+pub returns-in_err-note_none-clause-tail : goal.returns-in_err-note_none-clause-tail
+returns-in_err-note_none-clause-tail g c = IfOk-from_err c.from_residual-in_err-note_none.result _ c.from_residual-in_err-note_none.ensures.0
 
 pub returns-then-first-eq0-clause-tail : goal.returns-then-first-eq0-clause-tail
 returns-then-first-eq0-clause-tail g c = tt

@@ -1,75 +1,104 @@
-use Rattle.std.proofs.Common.{◌≡◌, [], ◌∷◌, sym, subst, ◌∙◌, arith}
+use Rattle.std.proofs.Common.{sym, ◌∙◌, arith, inl, refl}
+use Rattle.md_history.specs.declared.acts.Op.TheVariants.{Front}
 use Rattle.md_history.specs.declared.stops.Limit.TheVariants.{Reads, Writes}
-use Rattle.md_words.specs.declared.shape.Shape.{Shape}
-use Rattle.md_words.specs.Layout.{address}
-use Rattle.md_words.specs.Link.{linked_node}
-use Rattle.md_words.specs.Place.{node_next, queue_head}
-use Rattle.md_nbtc_law.specs.Known.{Known}
-use Rattle.md_nbtc_law.proofs.structures.NodesKnown.{shape_later}
 use Rattle.md_nbtc.specs.State.{state}
-use Rattle.md_queue.specs.Nodes.{IsReadable}
-use Rattle.md_queue.specs.Operations.{RecordsAmong, RefusedOtherwise}
-use Rattle.md_queue.specs.Working.{first_words}
-use Rattle.md_queue.proofs.Among.{among_to, answered}
-use Rattle.md_queue.proofs.Data.{half_is}
-use Rattle.md_queue.proofs.Firsts.{first_among, front_none, front_some}
-use Rattle.md_queue.proofs.Looking.{node_readable}
-use Rattle.md_queue.proofs.Steps.{goes_then, pass_goes, refused_then, refused_up, unstopped}
-use Rattle.md_queue.specs.Refusals.{AsksFront}
+use Rattle.md_queue.specs.Operations.{RefusedOtherwise, words_recorded}
+use Rattle.md_queue.specs.Refusals.{AsksFor}
+use Rattle.md_queue.specs.Working.{none_words}
+use Rattle.md_queue.proofs.Among.{among_from, answered}
+use Rattle.md_queue.proofs.Firsts.{front_none, none_among}
 use Rattle.md_queue.proofs.Refusing.{began_on, not_by, read_from, if_err, stays_on}
+use Rattle.md_queue.proofs.Steps.{goes_then, refused_then, refused_up, unstopped}
 use Rattle.std.proofs.lemmas.Result.{IfOk-from_err}
 use Rattle.md_queue.proofs.first.front.Goals as goal
 
-pub note_first-requires : goal.note_first-requires
-note_first-requires g c =
+pub load_first-requires : goal.load_first-requires
+load_first-requires g c = record { begun = c.requires.begun }
+
+pub note_none-requires : goal.note_none-requires
+note_none-requires g c =
     let under = c.requires.begun.going in
-    record { sees = (under.0, c.in_ok-first.ensures.sees under.0 under.1) }
+    record { sees = (under.0, c.in_ok-first.ensures.sees under.0 under.1); none = c.if-first-eq0.true }
+
+pub read_first-requires : goal.read_first-requires
+read_first-requires g c =
+    let under = c.requires.begun.going in
+    record { sees = (under.0, c.in_ok-first.ensures.sees under.0 under.1); some = c.if-first-eq0.false }
 
 pub returns-then-first-eq0-clause-answer : goal.returns-then-first-eq0-clause-answer
 returns-then-first-eq0-clause-answer g c =
     let M = g.T.Theory.meaning in
     let s = state c.args.tx.now in
     let t = state c.load_first.new.tx in
-    let u = state c.note_first.new.tx in
+    let u = state c.note_none.new.tx in
     let head = c.in_ok-first.first.head in
-    let goes = goes_then M s t u 0 0 0 2 0 0 2 0 0 c.in_ok-first.ensures.goes (λ _. c.in_ok-note_first.ensures.goes) (omega arith) (omega arith) (omega arith) in
-    answered (first_words u c.args.queue head) goes
-    (λ cs going. front_none M g.T.Theory.lawful g.met.T.HasQueues.has_queues u c.args.queue cs head c.in_ok-first.first.next
-    (c.in_ok-note_first.ensures.noted cs (c.in_ok-first.ensures.sees cs going)) c.if-first-eq0.true)
-    (first_among M s t u c.args.queue head c.in_ok-first.ensures.goes c.in_ok-note_first.ensures.goes.leaves.on.later c.in_ok-note_first.ensures.among)
-
-pub value_of-requires : goal.value_of-requires
-value_of-requires g c =
-    let M = g.T.Theory.meaning in
-    let u = state c.note_first.new.tx in
-    let under = c.requires.begun.going in
-    let n = c.in_ok-note_first.ensures.noted under.0 (c.in_ok-first.ensures.sees under.0 under.1) in
-    let next = c.in_ok-first.first.next in
-    record {
-      may = record {
-        going = (under.0, n.working.going);
-        readable = subst (IsReadable M u) (sym (half_is next.value))
-            (node_readable M g.T.Theory.lawful g.met.T.HasQueues.has_queues u c.args.queue under.0 n.changes n.working _ (n.next_named c.if-first-eq0.false).placed);
-      };
-    }
+    let goes = goes_then M s t u 0 0 0 2 0 0 2 0 0 c.in_ok-first.ensures.goes (λ _. c.in_ok-note_none.ensures.goes) (omega arith) (omega arith) (omega arith) in
+    answered (none_words u c.args.queue head) goes
+    (λ cs going. front_none M g.met.T.HasQueues.has_queues u c.args.queue cs head (c.in_ok-note_none.ensures.noted cs (c.in_ok-first.ensures.sees cs going)))
+    (none_among M s t u c.args.queue head c.in_ok-first.ensures.goes c.in_ok-note_none.ensures.goes.leaves.on.later c.in_ok-note_none.ensures.among)
 
 pub returns-clause-answer : goal.returns-clause-answer
 returns-clause-answer g c =
     let M = g.T.Theory.meaning in
     let s = state c.args.tx.now in
     let t = state c.load_first.new.tx in
-    let u = state c.note_first.new.tx in
-    let v = state c.value_of.new.tx in
-    let next = c.in_ok-first.first.next in
-    let head = c.in_ok-first.first.head in
-    let noted = goes_then M s t u 0 0 0 2 0 0 2 0 0 c.in_ok-first.ensures.goes (λ _. c.in_ok-note_first.ensures.goes) (omega arith) (omega arith) (omega arith) in
-    let read = pass_goes M u v c.value_of.ensures.on c.value_of.ensures.same noted.leaves.operates in
-    let among = first_among M s t u c.args.queue head c.in_ok-first.ensures.goes c.in_ok-note_first.ensures.goes.leaves.on.later c.in_ok-note_first.ensures.among in
-    answered (first_words v c.args.queue head) (goes_then M s u v 2 0 0 0 0 0 2 0 0 noted (λ _. read) (omega arith) (omega arith) (omega arith))
-    (λ cs going. front_some M g.T.Theory.lawful g.met.T.HasQueues.has_queues u v c.args.queue cs head next (c.in_ok-note_first.ensures.noted cs (c.in_ok-first.ensures.sees cs going)) c.if-first-eq0.false c.value_of.ensures.on c.value_of.ensures.same
-    c.value_of.result (subst (λ x. Known M v (λ w h. h.words.value_of_node x ≡ c.value_of.result)) (half_is next.value) c.value_of.ensures.known))
-    (subst (λ (x : Shape). RecordsAmong s v (address x (queue_head c.args.queue) ∷ address x (node_next (linked_node head.value)) ∷ [])) (sym (shape_later u v read.leaves.on.later))
-    (among_to M s u v 0 0 (first_words u c.args.queue head) among read))
+    let u = state c.read_first.new.tx in
+    let first = c.in_ok-first.ensures.goes in
+    record {
+      goes = goes_then M s t u 0 0 0 1 0 0 1 0 0 first (λ _. c.in_ok-value.ensures.reads.goes) (omega arith) (omega arith) (omega arith);
+      by = λ cs going.
+          let read = c.in_ok-value.ensures.reads.answer cs (c.in_ok-first.ensures.sees cs going) in
+          record {
+            certificate = read.certificate;
+            of = read.of;
+            may = read.may;
+            row = read.row;
+            recorded = among_from M s t u 0 0 (words_recorded read.certificate) first read.recorded;
+            charged = read.charged;
+          };
+    }
+
+pub returns-in_err-note_none-clause-stop : goal.returns-in_err-note_none-clause-stop
+returns-in_err-note_none-clause-stop g c =
+    let M = g.T.Theory.meaning in
+    let s = state c.args.tx.now in
+    let t = state c.load_first.new.tx in
+    let u = state c.note_none.new.tx in
+    let stop = c.in_err-note_none.field-0.0 in
+    let refused : RefusedOtherwise M s u 2 0 stop = refused_then M s t u 0 0 2 0 2 0 stop c.in_ok-first.ensures.goes (λ _. c.in_err-note_none.ensures.stop) (omega arith) (omega arith) in
+    if_err c.from_residual-in_err-note_none.result stop _ c.from_residual-in_err-note_none.ensures.1 refused
+
+pub returns-in_err-value-clause-stop : goal.returns-in_err-value-clause-stop
+returns-in_err-value-clause-stop g c =
+    let M = g.T.Theory.meaning in
+    let s = state c.args.tx.now in
+    let t = state c.load_first.new.tx in
+    let u = state c.read_first.new.tx in
+    let stop = c.in_err-value.field-0.0 in
+    let refused : RefusedOtherwise M s u 2 0 stop = refused_then M s t u 0 0 1 0 2 0 stop c.in_ok-first.ensures.goes (λ _. c.in_err-value.ensures.stop) (omega arith) (omega arith) in
+    if_err c.from_residual-in_err-value.result stop _ c.from_residual-in_err-value.ensures.1 refused
+
+pub returns-in_err-note_none-clause-reads : goal.returns-in_err-note_none-clause-reads
+returns-in_err-note_none-clause-reads g c =
+    let M = g.T.Theory.meaning in
+    let t = state c.args.tx.now in
+    let u = state c.load_first.new.tx in
+    let v = state c.note_none.new.tx in
+    let goes = c.in_ok-first.ensures.goes in
+    let stop = c.in_err-note_none.field-0.0 in
+    if_err c.from_residual-in_err-note_none.result stop _ c.from_residual-in_err-note_none.ensures.1 (λ limit began cs going. read_from M t u v 0 0 cs (AsksFor (Front c.args.queue)) goes
+    (c.in_err-note_none.ensures.reads limit (began_on M t u 0 0 0 goes began) cs (c.in_ok-first.ensures.sees cs going) (Front c.args.queue) (inl refl)))
+
+pub returns-in_err-value-clause-reads : goal.returns-in_err-value-clause-reads
+returns-in_err-value-clause-reads g c =
+    let M = g.T.Theory.meaning in
+    let t = state c.args.tx.now in
+    let u = state c.load_first.new.tx in
+    let v = state c.read_first.new.tx in
+    let goes = c.in_ok-first.ensures.goes in
+    let stop = c.in_err-value.field-0.0 in
+    if_err c.from_residual-in_err-value.result stop _ c.from_residual-in_err-value.ensures.1 (λ limit began cs going. read_from M t u v 0 0 cs (AsksFor (Front c.args.queue)) goes
+    (c.in_err-value.ensures.refused limit (began_on M t u 0 0 0 goes began) cs (c.in_ok-first.ensures.sees cs going)))
 
 pub returns-then-first-eq0-clause-stopped : goal.returns-then-first-eq0-clause-stopped
 returns-then-first-eq0-clause-stopped g c s is = unstopped (state c.args.tx.now) (state c.load_first.new.tx) c.in_ok-first.first c.in_ok-first.ensures.stopped s is
@@ -77,38 +106,31 @@ returns-then-first-eq0-clause-stopped g c s is = unstopped (state c.args.tx.now)
 pub returns-clause-stopped : goal.returns-clause-stopped
 returns-clause-stopped g c s is = unstopped (state c.args.tx.now) (state c.load_first.new.tx) c.in_ok-first.first c.in_ok-first.ensures.stopped s is
 
-pub returns-in_err-note_first-clause-stopped : goal.returns-in_err-note_first-clause-stopped
-returns-in_err-note_first-clause-stopped g c s is = unstopped (state c.args.tx.now) (state c.load_first.new.tx) c.in_ok-first.first c.in_ok-first.ensures.stopped s is
+pub returns-in_err-note_none-clause-stopped : goal.returns-in_err-note_none-clause-stopped
+returns-in_err-note_none-clause-stopped g c s is = unstopped (state c.args.tx.now) (state c.load_first.new.tx) c.in_ok-first.first c.in_ok-first.ensures.stopped s is
 
-pub returns-in_err-note_first-clause-stop : goal.returns-in_err-note_first-clause-stop
-returns-in_err-note_first-clause-stop g c =
-    let M = g.T.Theory.meaning in
-    let s = state c.args.tx.now in
-    let t = state c.load_first.new.tx in
-    let u = state c.note_first.new.tx in
-    let stop = c.in_err-note_first.field-0.0 in
-    let refused : RefusedOtherwise M s u 2 0 stop = refused_then M s t u 0 0 2 0 2 0 stop c.in_ok-first.ensures.goes (λ _. c.in_err-note_first.ensures.stop) (omega arith) (omega arith) in
-    if_err c.from_residual-in_err-note_first.result stop _ c.from_residual-in_err-note_first.ensures.1 refused
+pub returns-in_err-value-clause-stopped : goal.returns-in_err-value-clause-stopped
+returns-in_err-value-clause-stopped g c s is = unstopped (state c.args.tx.now) (state c.load_first.new.tx) c.in_ok-first.first c.in_ok-first.ensures.stopped s is
 
-pub returns-in_err-note_first-clause-reads : goal.returns-in_err-note_first-clause-reads
-returns-in_err-note_first-clause-reads g c =
-    let M = g.T.Theory.meaning in
-    let t = state c.args.tx.now in
-    let u = state c.load_first.new.tx in
-    let v = state c.note_first.new.tx in
-    let goes = c.in_ok-first.ensures.goes in
-    let stop = c.in_err-note_first.field-0.0 in
-    if_err c.from_residual-in_err-note_first.result stop _ c.from_residual-in_err-note_first.ensures.1 (λ limit began cs going. read_from M t u v 0 0 cs (AsksFront c.args.queue) goes
-    (c.in_err-note_first.ensures.reads limit (began_on M t u 0 0 0 goes began) cs (c.in_ok-first.ensures.sees cs going)))
+pub returns-in_err-note_none-clause-no_writes : goal.returns-in_err-note_none-clause-no_writes
+returns-in_err-note_none-clause-no_writes g c = if_err c.from_residual-in_err-note_none.result c.in_err-note_none.field-0.0 _ c.from_residual-in_err-note_none.ensures.1
+    (λ limit. sym c.in_ok-first.ensures.goes.same_stop ∙ c.in_err-note_none.ensures.no_writes limit)
 
-pub returns-in_err-note_first-clause-pass : goal.returns-in_err-note_first-clause-pass
-returns-in_err-note_first-clause-pass g c = c.in_err-note_first.ensures.pass ∙ c.in_ok-first.ensures.pass
+pub returns-in_err-value-clause-no_writes : goal.returns-in_err-value-clause-no_writes
+returns-in_err-value-clause-no_writes g c = if_err c.from_residual-in_err-value.result c.in_err-value.field-0.0 _ c.from_residual-in_err-value.ensures.1
+    (λ limit. sym c.in_ok-first.ensures.goes.same_stop ∙ c.in_err-value.ensures.no_writes limit)
+
+pub returns-in_err-note_none-clause-pass : goal.returns-in_err-note_none-clause-pass
+returns-in_err-note_none-clause-pass g c = c.in_err-note_none.ensures.pass ∙ c.in_ok-first.ensures.pass
+
+pub returns-in_err-value-clause-pass : goal.returns-in_err-value-clause-pass
+returns-in_err-value-clause-pass g c = c.in_err-value.ensures.pass ∙ c.in_ok-first.ensures.pass
 
 pub returns-then-first-eq0-clause-pass : goal.returns-then-first-eq0-clause-pass
-returns-then-first-eq0-clause-pass g c = c.in_ok-note_first.ensures.pass ∙ c.in_ok-first.ensures.pass
+returns-then-first-eq0-clause-pass g c = c.in_ok-note_none.ensures.pass ∙ c.in_ok-first.ensures.pass
 
 pub returns-clause-pass : goal.returns-clause-pass
-returns-clause-pass g c = c.value_of.ensures.pass ∙ c.in_ok-note_first.ensures.pass ∙ c.in_ok-first.ensures.pass
+returns-clause-pass g c = c.in_ok-value.ensures.pass ∙ c.in_ok-first.ensures.pass
 
 pub returns-in_err-first-clause-stop : goal.returns-in_err-first-clause-stop
 returns-in_err-first-clause-stop g c = if_err c.from_residual.result c.in_err-first.field-0.0 _ c.from_residual.ensures.1
@@ -121,13 +143,6 @@ returns-in_err-first-clause-reads g c = if_err c.from_residual.result c.in_err-f
 pub returns-in_err-first-clause-no_writes : goal.returns-in_err-first-clause-no_writes
 returns-in_err-first-clause-no_writes g c = if_err c.from_residual.result c.in_err-first.field-0.0 _ c.from_residual.ensures.1 (c.in_err-first.ensures.limits Writes)
 
-pub returns-in_err-note_first-clause-no_writes : goal.returns-in_err-note_first-clause-no_writes
-returns-in_err-note_first-clause-no_writes g c = if_err c.from_residual-in_err-note_first.result c.in_err-note_first.field-0.0 _ c.from_residual-in_err-note_first.ensures.1
-    (λ limit. sym c.in_ok-first.ensures.goes.same_stop ∙ c.in_err-note_first.ensures.no_writes limit)
-
-pub load_first-requires : goal.load_first-requires
-load_first-requires g c = record { begun = c.requires.begun }
-
 pub returns-in_err-first-clause-pass : goal.returns-in_err-first-clause-pass
 returns-in_err-first-clause-pass g c = c.in_err-first.ensures.pass
 
@@ -138,8 +153,11 @@ pub returns-in_err-first-clause-stopped : goal.returns-in_err-first-clause-stopp
 returns-in_err-first-clause-stopped g c = stays_on (state c.args.tx.now) (state c.load_first.new.tx) c.from_residual.result c.in_err-first.field-0.0 c.from_residual.ensures.1
     (c.in_err-first.ensures.stopped)
 
-pub returns-in_err-note_first-clause-answer : goal.returns-in_err-note_first-clause-answer
-returns-in_err-note_first-clause-answer g c = IfOk-from_err c.from_residual-in_err-note_first.result _ c.from_residual-in_err-note_first.ensures.0
+pub returns-in_err-note_none-clause-answer : goal.returns-in_err-note_none-clause-answer
+returns-in_err-note_none-clause-answer g c = IfOk-from_err c.from_residual-in_err-note_none.result _ c.from_residual-in_err-note_none.ensures.0
+
+pub returns-in_err-value-clause-answer : goal.returns-in_err-value-clause-answer
+returns-in_err-value-clause-answer g c = IfOk-from_err c.from_residual-in_err-value.result _ c.from_residual-in_err-value.ensures.0
 
 pub returns-then-first-eq0-clause-stop : goal.returns-then-first-eq0-clause-stop
 returns-then-first-eq0-clause-stop g c = tt

@@ -8,15 +8,14 @@ use Rattle.md_history.specs.declared.acts.Reply.TheVariants.{Line as TheLine}
 use Rattle.md_history.specs.State.{line_of}
 use Rattle.md_machine.specs.declared.certificate.Certificate.{Certificate}
 use Rattle.md_nbtc_law.specs.Going.{IsGoing}
-use Rattle.md_nbtc_law.specs.State.{shape_in}
 use Rattle.md_nbtc_law.proofs.structures.NodesKnown.{shape_later}
 use Rattle.md_nbtc.specs.State.{state}
-use Rattle.md_queue_law.specs.QueueCertificates.{Seen, last_seen}
-use Rattle.md_queue.specs.Along.{LooksFurther, seen_as, words_along}
-use Rattle.md_queue.specs.Operations.{RecordsAmong, RefusedOtherwise}
-use Rattle.md_queue.specs.Words.{next_at}
-use Rattle.md_queue.proofs.Along.{looked_enough, looked_to_end, words_more}
-use Rattle.md_queue.proofs.Among.{AnswersBy, among_then, answered}
+use Rattle.md_queue_law.specs.QueueCertificates.{Seen}
+use Rattle.md_queue.specs.Along.{LooksFurther, end_reads, end_words, seen_as}
+use Rattle.md_queue.specs.Operations.{GoesBy, RecordsAmong, RefusedOtherwise}
+use Rattle.md_queue.specs.Words.{head_at, next_at}
+use Rattle.md_queue.proofs.Along.{looked_enough, looked_to_end}
+use Rattle.md_queue.proofs.Among.{AnswersBy, among_then, among_to, answered}
 use Rattle.md_queue.proofs.Lined.{line_more, values_of}
 use Rattle.md_queue.proofs.Steps.{goes_then, goes_up, refused_then, refused_up}
 use Rattle.std.proofs.Common.{◌≤◌}
@@ -56,26 +55,21 @@ loop-i-preserved g c =
     let i = c.loop-i.i in
     let passed = c.in-Some.passed in
     let p = seen_as passed in
-    let under = c.requires.begun.going in
+    let goes : GoesBy M t u 0 0 0 = subst (λ o. GoesBy M t u (end_reads o) 0 0) c.in-Some.is c.in_ok-passed.ensures.goes in
     let further : (cs : List Certificate) → IsGoing M s cs → LooksFurther M u c.args.queue cs h.dummy c.loop-i.node h.seen (Some passed)
     = λ cs going. subst (LooksFurther M u c.args.queue cs h.dummy c.loop-i.node h.seen) c.in-Some.is (c.in_ok-passed.ensures.further c.args.queue cs h.dummy h.seen (h.looked cs going)) in
-    let last = ap (λ n. next_at t n) (h.looked under.0 under.1).last in
-    let more : RecordsAmong s u (words_along (shape_in u) c.args.queue h.dummy h.seen ++ next_at u (last_seen h.dummy h.seen) ∷ [])
-    = subst (λ (x : Shape). RecordsAmong s u (words_along x c.args.queue h.dummy h.seen ++ address x (node_next (last_seen h.dummy h.seen)) ∷ []))
-    (sym (shape_later t u c.in_ok-passed.ensures.goes.leaves.on.later))
-    (among_then s t u (words_along (shape_in t) c.args.queue h.dummy h.seen) (next_at t (last_seen h.dummy h.seen) ∷ []) h.among
-    (subst (λ w. RecordsAmong t u (w ∷ [])) last c.in_ok-passed.ensures.among)) in
     record {
       pass = c.in_ok-passed.ensures.pass ∙ c.loop-i.invariant.pass;
       has = record {
-        goes = goes_then M s t u (i + 1) 0 0 1 0 0 (i + 1 + 1) 0 0 h.goes (λ _. c.in_ok-passed.ensures.goes) (omega arith) (omega arith) (omega arith);
+        goes = goes_then M s t u 1 0 0 0 0 0 1 0 0 h.goes (λ _. goes) (omega arith) (omega arith) (omega arith);
         dummy = h.dummy;
         seen = h.seen ++ p ∷ [];
         counted = length-append h.seen (p ∷ []) ∙ ap (λ k. k + 1) h.counted;
         is = line_more (values_of h.seen) i passed.value (length-map h.seen (λ (x : Seen). x.value) ∙ h.counted) (omega arith) c.loop-i.line.values (ap (λ l. l.values) h.is)
             ∙ ap line_of (sym (map-append (λ (x : Seen). x.value) h.seen (p ∷ [])));
         looked = further;
-        among = subst (RecordsAmong s u) (words_more (shape_in u) c.args.queue h.dummy h.seen p) more;
+        among = subst (λ (x : Shape). RecordsAmong s u (address x (queue_head c.args.queue) ∷ [])) (sym (shape_later t u goes.leaves.on.later))
+            (among_to M s t u 0 0 (head_at t c.args.queue ∷ []) h.among goes);
       };
     }
 
@@ -85,13 +79,12 @@ returns-after-loop-i-clause-answer g c =
     let t = state c.loop-i.tx in
     let h = c.loop-i.invariant.has in
     let all : length h.seen ≡ c.args.n = h.counted ∙ omega arith in
-    let by : (cs : List Certificate) → IsGoing M (state c.args.tx.now) cs
-    → AnswersBy M t cs (LineOf c.args.queue c.args.n) (TheLine c.loop-i.line) (words_along (shape_in t) c.args.queue h.dummy h.seen)
-    = λ cs going. subst (λ k. AnswersBy M t cs (LineOf c.args.queue k) (TheLine c.loop-i.line) (words_along (shape_in t) c.args.queue h.dummy h.seen)) all
-    (subst (λ l. AnswersBy M t cs (LineOf c.args.queue (length h.seen)) (TheLine l) (words_along (shape_in t) c.args.queue h.dummy h.seen)) (sym h.is)
+    let words = head_at t c.args.queue ∷ [] in
+    let by : (cs : List Certificate) → IsGoing M (state c.args.tx.now) cs → AnswersBy M t cs (LineOf c.args.queue c.args.n) (TheLine c.loop-i.line) words
+    = λ cs going. subst (λ k. AnswersBy M t cs (LineOf c.args.queue k) (TheLine c.loop-i.line) words) all
+    (subst (λ l. AnswersBy M t cs (LineOf c.args.queue (length h.seen)) (TheLine l) words) (sym h.is)
     (looked_enough M g.T.Theory.lawful g.met.T.HasQueues.has_queues t c.args.queue cs h.dummy c.loop-i.node h.seen (h.looked cs going))) in
-    answered (words_along (shape_in t) c.args.queue h.dummy h.seen)
-    (goes_up M (state c.args.tx.now) t (c.loop-i.i + 1) 0 0 (c.args.n + 1) 0 0 h.goes (omega arith) (omega arith) (omega arith)) by h.among
+    answered words (goes_up M (state c.args.tx.now) t 1 0 0 2 0 0 h.goes (omega arith) (omega arith) (omega arith)) by h.among
 
 pub returns-in_default-clause-answer : goal.returns-in_default-clause-answer
 returns-in_default-clause-answer g c =
@@ -100,22 +93,20 @@ returns-in_default-clause-answer g c =
     let t = state c.loop-i.tx in
     let u = state c.pass_next.new.tx in
     let h = c.loop-i.invariant.has in
+    let node = c.loop-i.node in
     let counted = h.counted in
     let fewer : length h.seen < c.args.n = omega (arith, counted) in
-    let under = c.requires.begun.going in
-    let end : (cs : List Certificate) → IsGoing M s cs → LooksFurther M u c.args.queue cs h.dummy c.loop-i.node h.seen None
-    = λ cs going. subst (LooksFurther M u c.args.queue cs h.dummy c.loop-i.node h.seen) c.in_default.is (c.in_ok-passed.ensures.further c.args.queue cs h.dummy h.seen (h.looked cs going)) in
-    let last = ap (λ n. next_at t n) (h.looked under.0 under.1).last in
-    let more : RecordsAmong s u (words_along (shape_in u) c.args.queue h.dummy h.seen ++ next_at u (last_seen h.dummy h.seen) ∷ [])
-    = subst (λ (x : Shape). RecordsAmong s u (words_along x c.args.queue h.dummy h.seen ++ address x (node_next (last_seen h.dummy h.seen)) ∷ []))
-    (sym (shape_later t u c.in_ok-passed.ensures.goes.leaves.on.later))
-    (among_then s t u (words_along (shape_in t) c.args.queue h.dummy h.seen) (next_at t (last_seen h.dummy h.seen) ∷ []) h.among
-    (subst (λ w. RecordsAmong t u (w ∷ [])) last c.in_ok-passed.ensures.among)) in
-    let words = words_along (shape_in u) c.args.queue h.dummy h.seen ++ next_at u (last_seen h.dummy h.seen) ∷ [] in
+    let goes : GoesBy M t u 1 0 0 = subst (λ o. GoesBy M t u (end_reads o) 0 0) c.in_default.is c.in_ok-passed.ensures.goes in
+    let end : (cs : List Certificate) → IsGoing M s cs → LooksFurther M u c.args.queue cs h.dummy node h.seen None
+    = λ cs going. subst (LooksFurther M u c.args.queue cs h.dummy node h.seen) c.in_default.is (c.in_ok-passed.ensures.further c.args.queue cs h.dummy h.seen (h.looked cs going)) in
+    let words = head_at u c.args.queue ∷ next_at u node ∷ [] in
     answered words
-    (goes_then M s t u (c.loop-i.i + 1) 0 0 1 0 0 (c.args.n + 1) 0 0 h.goes (λ _. c.in_ok-passed.ensures.goes) (omega arith) (omega arith) (omega arith))
+    (goes_then M s t u 1 0 0 1 0 0 2 0 0 h.goes (λ _. goes) (omega arith) (omega arith) (omega arith))
     (λ cs going. subst (λ l. AnswersBy M u cs (LineOf c.args.queue c.args.n) (TheLine l) words) (sym h.is)
-    (looked_to_end M g.T.Theory.lawful g.met.T.HasQueues.has_queues u c.args.queue cs h.dummy c.loop-i.node h.seen (end cs going) c.args.n fewer)) more
+    (looked_to_end M g.T.Theory.lawful g.met.T.HasQueues.has_queues u c.args.queue cs h.dummy node h.seen (end cs going) c.args.n fewer))
+    (subst (λ (x : Shape). RecordsAmong s u (address x (queue_head c.args.queue) ∷ address x (node_next node) ∷ [])) (sym (shape_later t u goes.leaves.on.later))
+    (among_then s t u (head_at t c.args.queue ∷ []) (next_at t node ∷ []) h.among
+    (subst (λ o. RecordsAmong t u (end_words t node o)) c.in_default.is c.in_ok-passed.ensures.among)))
 
 pub returns-in_err-passed-clause-stop : goal.returns-in_err-passed-clause-stop
 returns-in_err-passed-clause-stop g c =
@@ -123,9 +114,8 @@ returns-in_err-passed-clause-stop g c =
     let s = state c.args.tx.now in
     let t = state c.loop-i.tx in
     let u = state c.pass_next.new.tx in
-    let i = c.loop-i.i in
     let stop = c.in_err-passed.field-0.0 in
-    let refused : RefusedOtherwise M s u (c.args.n + 1) 0 stop = refused_then M s t u (i + 1) 0 1 0 (c.args.n + 1) 0 stop c.loop-i.invariant.has.goes (λ _. c.in_err-passed.ensures.stop)
+    let refused : RefusedOtherwise M s u 2 0 stop = refused_then M s t u 1 0 1 0 2 0 stop c.loop-i.invariant.has.goes (λ _. c.in_err-passed.ensures.stop)
     (omega arith) (omega arith) in
     if_err c.from_residual-in_err-passed.result stop _ c.from_residual-in_err-passed.ensures.1 refused
 
@@ -155,7 +145,7 @@ returns-in_err-passed-clause-reads g c =
     let few : length h.seen + 1 ≤ n = omega (arith, counted) in
     let stop = c.in_err-passed.field-0.0 in
     if_err c.from_residual-in_err-passed.result stop _ c.from_residual-in_err-passed.ensures.1 (λ limit began cs going. line_asks M s u cs queue (length h.seen + 1) n few
-    (c.in_err-passed.ensures.reads limit (began_on M s t (c.loop-i.i + 1) 0 0 h.goes began) s queue cs h.dummy h.seen h.goes.leaves.on.later (h.looked cs going) h.among))
+    (c.in_err-passed.ensures.reads limit (began_on M s t 1 0 0 h.goes began) s queue cs h.dummy h.seen h.goes.leaves.on.later (h.looked cs going) h.among))
 
 pub pass_head-requires : goal.pass_head-requires
 pass_head-requires g c = record { begun = c.requires.begun }
@@ -168,7 +158,7 @@ returns-in_err-node-clause-answer g c = IfOk-from_err c.from_residual.result _ c
 
 pub returns-in_err-node-clause-stop : goal.returns-in_err-node-clause-stop
 returns-in_err-node-clause-stop g c = if_err c.from_residual.result c.in_err-node.field-0.0 _ c.from_residual.ensures.1
-    (refused_up g.T.Theory.meaning (state c.args.tx.now) (state c.pass_head.new.tx) 1 0 (c.args.n + 1) 0 c.in_err-node.field-0.0 c.in_err-node.ensures.stop (omega arith) (omega arith))
+    (refused_up g.T.Theory.meaning (state c.args.tx.now) (state c.pass_head.new.tx) 1 0 2 0 c.in_err-node.field-0.0 c.in_err-node.ensures.stop (omega arith) (omega arith))
 
 pub returns-in_err-node-clause-no_writes : goal.returns-in_err-node-clause-no_writes
 returns-in_err-node-clause-no_writes g c = if_err c.from_residual.result c.in_err-node.field-0.0 _ c.from_residual.ensures.1

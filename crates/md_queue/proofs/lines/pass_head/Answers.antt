@@ -133,8 +133,9 @@ returns-in_err-note-clause-reads g c =
     let none = (began_on M t u 0 0 0 goes began).unstopped in (
       u,
       was_after M t u v u cs (Limited Reads) on.later (note_was M u v stop none word head limit cs s.working.going told),
-      line_head_full M g.T.Theory.lawful g.met.T.HasQueues.has_queues u queue cs s.changes s.working t word (place ∙ sym (shape_head M t u on.later queue))
-          (note_unread M u v stop none word head limit told) (note_unwritten M u v stop none word head limit told) (ap (λ x. x.reads) is.0),
+      line_head_full M g.T.Theory.lawful g.met.T.HasQueues.has_queues u queue cs s.changes s.working t word
+          (note_unread M u v stop none word head limit told) (note_unwritten M u v stop none word head limit told)
+          (place ∙ sym (shape_head M t u on.later queue)) (ap (λ x. x.reads) is.0) (began_on M t u 0 0 0 goes began).alone,
     ))
 
 pub load-requires-clause-going : goal.load-requires-clause-going

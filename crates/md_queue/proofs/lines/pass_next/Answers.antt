@@ -1,8 +1,8 @@
-use Rattle.std.proofs.Common.{◌≡◌, ◌++◌, [], ◌∷◌, ap, sym, subst, ◌∙◌, arith}
+use Rattle.std.proofs.Common.{◌≡◌, ◌<◌, ◌^◌, ◌++◌, [], ◌∷◌, ap, sym, subst, ◌∙◌, arith}
 use Rattle.md_words.specs.declared.shape.Shape.{Shape}
 use Rattle.md_words.specs.Layout.{address}
 use Rattle.md_words.specs.Link.{linked_node}
-use Rattle.md_words.specs.Place.{node_next}
+use Rattle.md_words.specs.Place.{node_next, queue_head}
 use Rattle.md_nbtc_law.specs.Known.{Known}
 use Rattle.md_nbtc_law.proofs.structures.NodesKnown.{shape_later}
 use Rattle.md_nbtc.specs.State.{state}
@@ -10,20 +10,17 @@ use Rattle.md_queue_law.specs.QueueCertificates.{Seen}
 use Rattle.md_queue.specs.Along.{HasLooked}
 use Rattle.md_queue.specs.Nodes.{IsReadable}
 use Rattle.md_queue.specs.Operations.{RecordsAmong, RefusedOtherwise}
-use Rattle.md_queue.specs.Words.{next_at}
-use Rattle.md_queue.proofs.Along.{ended, further, next_looked_at, next_noted}
-use Rattle.md_queue.proofs.Among.{among_from, among_to}
+use Rattle.md_queue.specs.Words.{head_at, next_at}
+use Rattle.md_queue.proofs.Along.{ended, further, looked_on, next_looked_at, next_names, working_there}
+use Rattle.md_queue.proofs.Among.{among_from, among_none, among_to}
 use Rattle.md_queue.proofs.Data.{half_is}
 use Rattle.md_queue.proofs.Looking.{node_readable}
 use Rattle.md_queue.proofs.Steps.{goes_then, look_goes, look_ok, look_stops, note_among, note_goes, note_ok, note_stops, pass_goes, refused_then, refused_up, look_not_by, note_not_by}
 use Rattle.md_history.specs.declared.stops.Limit.TheVariants.{Reads, Writes}
 use Rattle.md_history.specs.declared.stops.Stop.TheVariants.{Limit as Limited}
 use Rattle.std.proofs.Common.{refl}
-use Rattle.md_nbtc_law.specs.State.{shape_in}
-use Rattle.md_queue.specs.Along.{words_along}
-use Rattle.md_queue.proofs.Along.{looked_on}
+use Rattle.md_queue.proofs.Alone.{seen_there}
 use Rattle.md_queue.proofs.Full.{line_next_full}
-use Rattle.md_queue.proofs.Passing.{working_on}
 use Rattle.md_queue.proofs.Refusing.{began_on, note_unread, note_unwritten, note_was, was_after, if_err, not_by}
 use Rattle.std.proofs.lemmas.Result.{IfOk-from_err}
 use Rattle.md_queue.proofs.lines.pass_next.Goals as goal
@@ -106,68 +103,7 @@ returns-then-next-eq0-clause-further g c queue cs dummy seen s =
     let next = c.in_ok-next.next in
     let is = look_ok M t u on (next_at t c.args.node) next c.in_ok-next.ensures.looked in
     let noted = note_ok M u v over (next_at u c.args.node) next c.in_ok-note_next.ensures.noted in
-    ended M g.T.Theory.lawful g.met.T.HasQueues.has_queues t queue cs dummy c.args.node seen s v next
-    (next_noted M g.T.Theory.lawful g.met.T.HasQueues.has_queues t queue cs dummy c.args.node seen s u on is.0 next is.1 v over (omega arith) noted) c.if-next-eq0.true
-
-pub value_of-value-requires : goal.value_of-value-requires
-value_of-value-requires g c =
-    let M = g.T.Theory.meaning in
-    let t = state c.args.tx.now in
-    let u = state c.load_next.new.tx in
-    let v = state c.note_next.new.tx in
-    let queue = c.requires.looked.0 in
-    let dummy = c.requires.looked.2 in
-    let seen = c.requires.looked.3 in
-    let s = c.requires.looked.4 in
-    let on = c.in_ok-next.ensures.on in
-    let over = c.in_ok-note_next.ensures.on in
-    let next = c.in_ok-next.next in
-    let is = look_ok M t u on (next_at t c.args.node) next c.in_ok-next.ensures.looked in
-    let noted = note_ok M u v over (next_at u c.args.node) next c.in_ok-note_next.ensures.noted in
-    let n = next_noted M g.T.Theory.lawful g.met.T.HasQueues.has_queues t queue c.requires.looked.1 dummy c.args.node seen s u on is.0 next is.1 v over (omega arith) noted in
-    record {
-      may = record {
-        going = (c.requires.looked.1, n.working.going);
-        readable = subst (IsReadable M v) (sym (half_is next.value))
-            (node_readable M g.T.Theory.lawful g.met.T.HasQueues.has_queues v queue c.requires.looked.1 s.changes n.working (linked_node next.value) (n.named c.if-next-eq0.false).placed);
-      };
-    }
-
-pub returns-clause-goes : goal.returns-clause-goes
-returns-clause-goes g c =
-    let M = g.T.Theory.meaning in
-    let t = state c.args.tx.now in
-    let u = state c.load_next.new.tx in
-    let v = state c.note_next.new.tx in
-    let w = state c.value_of-value.new.tx in
-    let s = c.requires.looked.4 in
-    let on = c.in_ok-next.ensures.on in
-    let over = c.in_ok-note_next.ensures.on in
-    let next = c.in_ok-next.next in
-    let going = on.going c.requires.looked.1 s.working.going in
-    goes_then M t v w 1 0 0 0 0 0 1 0 0
-    (goes_then M t u v 0 0 0 1 0 0 1 0 0
-    (look_goes M t u on (next_at t c.args.node) next c.in_ok-next.ensures.looked s.working.operates)
-    (note_goes M u v over (next_at u c.args.node) next c.in_ok-note_next.ensures.noted) (omega arith) (omega arith) (omega arith))
-    (pass_goes M v w c.value_of-value.ensures.on c.value_of-value.ensures.same) (omega arith) (omega arith) (omega arith)
-
-pub returns-clause-further : goal.returns-clause-further
-returns-clause-further g c queue cs dummy seen s =
-    let M = g.T.Theory.meaning in
-    let t = state c.args.tx.now in
-    let u = state c.load_next.new.tx in
-    let v = state c.note_next.new.tx in
-    let w = state c.value_of-value.new.tx in
-    let on = c.in_ok-next.ensures.on in
-    let over = c.in_ok-note_next.ensures.on in
-    let next = c.in_ok-next.next in
-    let value = c.value_of-value.result in
-    let is = look_ok M t u on (next_at t c.args.node) next c.in_ok-next.ensures.looked in
-    let noted = note_ok M u v over (next_at u c.args.node) next c.in_ok-note_next.ensures.noted in
-    let n = next_noted M g.T.Theory.lawful g.met.T.HasQueues.has_queues t queue cs dummy c.args.node seen s u on is.0 next is.1 v over (omega arith) noted in
-    subst (λ x. HasLooked M w queue cs dummy x (seen ++ (let p : Seen = record { node = x; value = value } in p) ∷ [])) (sym (half_is next.value))
-    (further M g.T.Theory.lawful g.met.T.HasQueues.has_queues t queue cs dummy c.args.node seen s v next n c.if-next-eq0.false w c.value_of-value.ensures.on c.value_of-value.ensures.same value
-    (subst (λ x. Known M w (λ y h. h.words.value_of_node x ≡ value)) (half_is next.value) c.value_of-value.ensures.known))
+    ended M g.T.Theory.lawful g.met.T.HasQueues.has_queues t queue cs dummy c.args.node seen s u on is.0 next is.1 v over (omega arith) noted c.if-next-eq0.true
 
 pub returns-then-next-eq0-clause-among : goal.returns-then-next-eq0-clause-among
 returns-then-next-eq0-clause-among g c =
@@ -179,31 +115,69 @@ returns-then-next-eq0-clause-among g c =
     let on = c.in_ok-next.ensures.on in
     let over = c.in_ok-note_next.ensures.on in
     let next = c.in_ok-next.next in
-    let going = on.going c.requires.looked.1 s.working.going in
     let looked = look_goes M t u on (next_at t c.args.node) next c.in_ok-next.ensures.looked s.working.operates in
-    let among = among_from M t u v 0 0 (next_at t c.args.node ∷ []) looked
+    among_from M t u v 0 0 (next_at t c.args.node ∷ []) looked
     (subst (λ w. RecordsAmong u v (w ∷ [])) (ap (λ (x : Shape). address x (node_next c.args.node)) (shape_later t u on.later))
-    (note_among M u v over (next_at u c.args.node) next c.in_ok-note_next.ensures.noted)) in
-    among
+    (note_among M u v over (next_at u c.args.node) next c.in_ok-note_next.ensures.noted))
+
+pub value_of-value-requires : goal.value_of-value-requires
+value_of-value-requires g c =
+    let M = g.T.Theory.meaning in
+    let t = state c.args.tx.now in
+    let u = state c.load_next.new.tx in
+    let queue = c.requires.looked.0 in
+    let cs = c.requires.looked.1 in
+    let dummy = c.requires.looked.2 in
+    let seen = c.requires.looked.3 in
+    let s = c.requires.looked.4 in
+    let on = c.in_ok-next.ensures.on in
+    let next = c.in_ok-next.next in
+    let is = look_ok M t u on (next_at t c.args.node) next c.in_ok-next.ensures.looked in
+    let at_u = working_there M g.T.Theory.lawful g.met.T.HasQueues.has_queues t queue cs dummy c.args.node seen s u on is.0 next is.1 in
+    let named = next_names M g.T.Theory.lawful g.met.T.HasQueues.has_queues t queue cs dummy c.args.node seen s u on is.0 next is.1 c.if-next-eq0.false in
+    record {
+      may = record {
+        going = (cs, at_u.going);
+        readable = subst (IsReadable M u) (sym (half_is next.value))
+            (node_readable M g.T.Theory.lawful g.met.T.HasQueues.has_queues u queue cs s.changes at_u (linked_node next.value) named.placed);
+      };
+    }
+
+pub returns-clause-goes : goal.returns-clause-goes
+returns-clause-goes g c =
+    let M = g.T.Theory.meaning in
+    let t = state c.args.tx.now in
+    let u = state c.load_next.new.tx in
+    let v = state c.value_of-value.new.tx in
+    let s = c.requires.looked.4 in
+    goes_then M t u v 0 0 0 0 0 0 0 0 0
+    (look_goes M t u c.in_ok-next.ensures.on (next_at t c.args.node) c.in_ok-next.next c.in_ok-next.ensures.looked s.working.operates)
+    (pass_goes M u v c.value_of-value.ensures.on c.value_of-value.ensures.same) (omega arith) (omega arith) (omega arith)
 
 pub returns-clause-among : goal.returns-clause-among
 returns-clause-among g c =
     let M = g.T.Theory.meaning in
     let t = state c.args.tx.now in
     let u = state c.load_next.new.tx in
-    let v = state c.note_next.new.tx in
+    let v = state c.value_of-value.new.tx in
     let s = c.requires.looked.4 in
+    among_none M t v 0 0 (goes_then M t u v 0 0 0 0 0 0 0 0 0
+    (look_goes M t u c.in_ok-next.ensures.on (next_at t c.args.node) c.in_ok-next.next c.in_ok-next.ensures.looked s.working.operates)
+    (pass_goes M u v c.value_of-value.ensures.on c.value_of-value.ensures.same) (omega arith) (omega arith) (omega arith))
+
+pub returns-clause-further : goal.returns-clause-further
+returns-clause-further g c queue cs dummy seen s =
+    let M = g.T.Theory.meaning in
+    let t = state c.args.tx.now in
+    let u = state c.load_next.new.tx in
+    let v = state c.value_of-value.new.tx in
     let on = c.in_ok-next.ensures.on in
-    let over = c.in_ok-note_next.ensures.on in
     let next = c.in_ok-next.next in
-    let going = on.going c.requires.looked.1 s.working.going in
-    let looked = look_goes M t u on (next_at t c.args.node) next c.in_ok-next.ensures.looked s.working.operates in
-    let among = among_from M t u v 0 0 (next_at t c.args.node ∷ []) looked
-    (subst (λ w. RecordsAmong u v (w ∷ [])) (ap (λ (x : Shape). address x (node_next c.args.node)) (shape_later t u on.later))
-    (note_among M u v over (next_at u c.args.node) next c.in_ok-note_next.ensures.noted)) in
-    let noted = note_goes M u v over (next_at u c.args.node) next c.in_ok-note_next.ensures.noted looked.leaves.operates in
-    among_to M t v (state c.value_of-value.new.tx) 0 0 (next_at t c.args.node ∷ []) among
-    (pass_goes M v (state c.value_of-value.new.tx) c.value_of-value.ensures.on c.value_of-value.ensures.same noted.leaves.operates)
+    let value = c.value_of-value.result in
+    let is = look_ok M t u on (next_at t c.args.node) next c.in_ok-next.ensures.looked in
+    subst (λ x. HasLooked M v queue cs dummy x (seen ++ (let p : Seen = record { node = x; value = value } in p) ∷ [])) (sym (half_is next.value))
+    (further M g.T.Theory.lawful g.met.T.HasQueues.has_queues t queue cs dummy c.args.node seen s u on is.0 next is.1 c.if-next-eq0.false v c.value_of-value.ensures.on c.value_of-value.ensures.same value
+    (subst (λ x. Known M v (λ y h. h.words.value_of_node x ≡ value)) (half_is next.value) c.value_of-value.ensures.known))
 
 pub returns-in_err-note_next-clause-reads : goal.returns-in_err-note_next-clause-reads
 returns-in_err-note_next-clause-reads g c =
@@ -218,17 +192,20 @@ returns-in_err-note_next-clause-reads g c =
     let told = c.in_err-note_next.ensures.noted in
     let is = look_ok M t u on (next_at t node) next c.in_ok-next.ensures.looked in
     let word = next_at u node in
+    let fits : next.count < 2 ^ 32 = omega arith in
     if_err c.from_residual-in_err-note_next.result stop _ c.from_residual-in_err-note_next.ensures.1 (λ limit began before queue cs dummy seen since s among.
     let goes = look_goes M t u on (next_at t node) next c.in_ok-next.ensures.looked s.working.operates in
-    let none = (began_on M t u 0 0 0 goes began).unstopped in
-    let l = looked_on M g.T.Theory.lawful g.met.T.HasQueues.has_queues t queue cs dummy node seen s u on.later
-    (working_on M t u on.later queue cs s.changes on (ap (λ x. x.hand) is.0) s.working) in
-    let along = subst (λ (x : Shape). RecordsAmong before u (words_along x queue dummy seen)) (sym (shape_later t u on.later))
-    (among_to M before t u 0 0 (words_along (shape_in t) queue dummy seen) among goes) in (
+    let now = began_on M t u 0 0 0 goes began in
+    let at_u = working_there M g.T.Theory.lawful g.met.T.HasQueues.has_queues t queue cs dummy node seen s u on is.0 next is.1 in
+    let sees = next_looked_at M g.T.Theory.lawful g.met.T.HasQueues.has_queues t queue cs dummy node seen s u on is.0 next is.1 in
+    let l = looked_on M g.T.Theory.lawful g.met.T.HasQueues.has_queues t queue cs dummy node seen s u on.later at_u in
+    let along = subst (λ (x : Shape). RecordsAmong before u (address x (queue_head queue) ∷ [])) (sym (shape_later t u on.later))
+    (among_to M before t u 0 0 (head_at t queue ∷ []) among goes) in (
       u,
-      was_after M before t v u cs (Limited Reads) since (was_after M t u v u cs (Limited Reads) on.later (note_was M u v stop none word next limit cs l.working.going told)),
+      was_after M before t v u cs (Limited Reads) since (was_after M t u v u cs (Limited Reads) on.later (note_was M u v stop now.unstopped word next limit cs l.working.going told)),
       line_next_full M g.T.Theory.lawful g.met.T.HasQueues.has_queues u queue cs dummy node seen l before word refl
-          (note_unread M u v stop none word next limit told) (note_unwritten M u v stop none word next limit told) along,
+          (note_unread M u v stop now.unstopped word next limit told) (note_unwritten M u v stop now.unstopped word next limit told)
+          (λ h of. seen_there M g.T.Theory.lawful u cs l.changes queue l.working now.alone word next sees.at fits h of ∙ c.if-next-eq0.true) along,
     ))
 
 pub returns-in_err-next-clause-pass : goal.returns-in_err-next-clause-pass
@@ -281,7 +258,7 @@ pub returns-then-next-eq0-clause-no_writes : goal.returns-then-next-eq0-clause-n
 returns-then-next-eq0-clause-no_writes g c = tt
 
 pub returns-clause-pass : goal.returns-clause-pass
-returns-clause-pass g c = c.value_of-value.ensures.pass ∙ c.in_ok-note_next.ensures.pass ∙ c.in_ok-next.ensures.pass
+returns-clause-pass g c = c.value_of-value.ensures.pass ∙ c.in_ok-next.ensures.pass
 
 pub returns-clause-stop : goal.returns-clause-stop
 returns-clause-stop g c = tt

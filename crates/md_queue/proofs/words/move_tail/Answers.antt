@@ -6,7 +6,7 @@ use Rattle.md_nbtc_law.specs.declared.seen.Kind.{Kind}
 use Rattle.md_nbtc_law.specs.Calls.{AfterStop, Exchanges, MayExchange, exchange_case}
 use Rattle.md_nbtc_law.specs.Seeing.{Gave, KeepsGiven}
 use Rattle.md_words.specs.declared.shape.Shape.{Shape}
-use Rattle.md_queue.specs.Words.{move_kind, tail_at}
+use Rattle.md_queue.specs.Words.{move_kind}
 use Rattle.md_queue.proofs.words.move_tail.Goals as goal
 
 -- what holds of the kind that was chosen holds of the move's. The equation of both is searched for alone, which is quick,

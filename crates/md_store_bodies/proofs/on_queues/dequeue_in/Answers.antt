@@ -3,8 +3,8 @@ use Rattle.md_history.specs.declared.acts.Op.TheVariants.{Dequeue}
 use Rattle.md_history.specs.declared.acts.Reply.TheVariants.{Value}
 use Rattle.md_nbtc.specs.State.{state}
 use Rattle.md_queue.specs.Operations.{dequeue_reads, dequeue_writes}
-use Rattle.md_queue.specs.Refusals.{AsksFront}
-use Rattle.md_store_bodies.proofs.QueueRefusals.{front_by_dequeue}
+use Rattle.md_queue.specs.Refusals.{AsksFor}
+use Rattle.md_store_bodies.proofs.QueueRefusals.{asks_itself}
 use Rattle.md_store_bodies.proofs.Runs.{IsStarted, answered_runs, counted, cs, may_end, none_stood, queue_begun, queue_ends, queue_runs, stands_not}
 use Rattle.md_store_bodies.proofs.on_queues.dequeue_in.Goals as goal
 
@@ -46,9 +46,9 @@ returns-in-Err-clause-makes c =
     let none = none_stood c.args.before.now.value t s c.args.broken.now c.in_default.is c.requires.running start in
     record {
       runs = queue_runs c.args.before.now.value t s c.args.broken.now c.in_default.is c.requires.running start u 2 2 0 refl
-          c.args.queue (Dequeue c.args.queue) (AsksFront c.args.queue) c.in-Err.stop c.in-Err.ensures.stop.refused (record {
+          c.args.queue (Dequeue c.args.queue) (AsksFor (Dequeue c.args.queue)) c.in-Err.stop c.in-Err.ensures.stop.refused (record {
             other = refl;
-            reads = λ is alone. (front_by_dequeue c.args.queue, c.in-Err.ensures.reads is alone (cs c.args.before.now.value t s c.args.broken.now c.in_default.is c.requires.running start) (counted c.args.before.now.value t s c.args.broken.now c.in_default.is c.requires.running start).going);
+            reads = λ is alone. (λ op. asks_itself (Dequeue c.args.queue) op refl, c.in-Err.ensures.reads is alone (cs c.args.before.now.value t s c.args.broken.now c.in_default.is c.requires.running start) (counted c.args.before.now.value t s c.args.broken.now c.in_default.is c.requires.running start).going);
             writes = λ is alone. c.in-Err.ensures.writes is alone (cs c.args.before.now.value t s c.args.broken.now c.in_default.is c.requires.running start) (counted c.args.before.now.value t s c.args.broken.now c.in_default.is c.requires.running start).going;
             nodes = λ is. absurd (stands_not none (c.in-Err.ensures.stop.no_nodes is));
           });

@@ -2,7 +2,7 @@ use Rattle.std.proofs.Common.{rules, refl}
 use Rattle.md_history.specs.declared.acts.Op.TheVariants.{Enqueue}
 use Rattle.md_history.specs.declared.acts.Reply.TheVariants.{Nothing}
 use Rattle.md_nbtc.specs.State.{state}
-use Rattle.md_queue.specs.Refusals.{AsksFront}
+use Rattle.md_queue.specs.Refusals.{AsksFor}
 use Rattle.md_store_bodies.proofs.Runs.{IsStarted, answered_runs, counted, cs, may_end, none_stood, queue_begun, queue_ends, queue_runs, stands_not}
 use Rattle.md_store_bodies.proofs.on_queues.enqueue_in.Goals as goal
 
@@ -44,7 +44,7 @@ returns-in-Err-clause-makes c =
     let none = none_stood c.args.before.now.value t s c.args.broken.now c.in_default.is c.requires.running start in
     record {
       runs = queue_runs c.args.before.now.value t s c.args.broken.now c.in_default.is c.requires.running start u 0 2 1 refl
-          c.args.queue (Enqueue c.args.queue c.args.value) (AsksFront c.args.queue) c.in-Err.stop c.in-Err.ensures.stop (record {
+          c.args.queue (Enqueue c.args.queue c.args.value) (AsksFor (Enqueue c.args.queue c.args.value)) c.in-Err.stop c.in-Err.ensures.stop (record {
             other = refl;
             reads = λ is alone. absurd (stands_not none (c.in-Err.ensures.no_reads is));
             writes = λ is alone. c.in-Err.ensures.writes is alone (cs c.args.before.now.value t s c.args.broken.now c.in_default.is c.requires.running start) (counted c.args.before.now.value t s c.args.broken.now c.in_default.is c.requires.running start).going;

@@ -2,8 +2,9 @@ use Rattle.std.proofs.Common.{rules, refl}
 use Rattle.md_history.specs.declared.acts.Op.TheVariants.{Front}
 use Rattle.md_history.specs.declared.acts.Reply.TheVariants.{Value}
 use Rattle.md_nbtc.specs.State.{state}
-use Rattle.md_queue.specs.Refusals.{AsksFront}
-use Rattle.md_store_bodies.proofs.QueueRefusals.{front_by_front}
+use Rattle.md_queue.specs.Operations.{front_reads}
+use Rattle.md_queue.specs.Refusals.{AsksFor}
+use Rattle.md_store_bodies.proofs.QueueRefusals.{asks_itself}
 use Rattle.md_store_bodies.proofs.Runs.{IsStarted, answered_adds, answered_runs, refused_adds, counted, cs, may_end, none_stood, queue_begun, queue_ends, queue_runs, stands_not}
 use Rattle.md_store_bodies.proofs.on_queues.front_in.Goals as goal
 
@@ -19,7 +20,7 @@ end_op-requires-clause-may c =
     let s = state c.start_op.new.self in
     let u = state c.look.new.txn in
     let start : IsStarted t s = record { on = c.start_op.ensures.on; is = c.start_op.ensures.begun } in
-    let ends = queue_ends c.args.before.now.value t s c.args.broken.now c.in_default.is c.requires.running start u 2 0 0 (Front c.args.queue) (Value c.in-Ok.value) refl c.in-Ok.ensures.answer in
+    let ends = queue_ends c.args.before.now.value t s c.args.broken.now c.in_default.is c.requires.running start u (front_reads c.in-Ok.value) 0 0 (Front c.args.queue) (Value c.in-Ok.value) refl c.in-Ok.ensures.answer in
     may_end c.args.before.now.value t s c.args.broken.now c.in_default.is c.requires.running start u (Front c.args.queue) (Value c.in-Ok.value) ends
 
 pub returns-in-Ok-clause-makes : goal.returns-in-Ok-clause-makes
@@ -28,7 +29,7 @@ returns-in-Ok-clause-makes c =
     let s = state c.start_op.new.self in
     let u = state c.look.new.txn in
     let start : IsStarted t s = record { on = c.start_op.ensures.on; is = c.start_op.ensures.begun } in
-    let ends = queue_ends c.args.before.now.value t s c.args.broken.now c.in_default.is c.requires.running start u 2 0 0 (Front c.args.queue) (Value c.in-Ok.value) refl c.in-Ok.ensures.answer in
+    let ends = queue_ends c.args.before.now.value t s c.args.broken.now c.in_default.is c.requires.running start u (front_reads c.in-Ok.value) 0 0 (Front c.args.queue) (Value c.in-Ok.value) refl c.in-Ok.ensures.answer in
     record {
       runs = answered_runs c.args.before.now.value t s c.args.broken.now c.in_default.is c.requires.running start u (state c.end_op.new.self)
           (Front c.args.queue) (Value c.in-Ok.value) ends (record { on = c.end_op.ensures.on; is = c.end_op.ensures.ended });
@@ -46,9 +47,9 @@ returns-in-Err-clause-makes c =
     let none = none_stood c.args.before.now.value t s c.args.broken.now c.in_default.is c.requires.running start in
     record {
       runs = queue_runs c.args.before.now.value t s c.args.broken.now c.in_default.is c.requires.running start u 2 0 0 refl
-          c.args.queue (Front c.args.queue) (AsksFront c.args.queue) c.in-Err.stop c.in-Err.ensures.stop.refused (record {
+          c.args.queue (Front c.args.queue) (AsksFor (Front c.args.queue)) c.in-Err.stop c.in-Err.ensures.stop.refused (record {
             other = refl;
-            reads = λ is alone. (front_by_front c.args.queue, c.in-Err.ensures.reads is alone (cs c.args.before.now.value t s c.args.broken.now c.in_default.is c.requires.running start) (counted c.args.before.now.value t s c.args.broken.now c.in_default.is c.requires.running start).going);
+            reads = λ is alone. (λ op. asks_itself (Front c.args.queue) op refl, c.in-Err.ensures.reads is alone (cs c.args.before.now.value t s c.args.broken.now c.in_default.is c.requires.running start) (counted c.args.before.now.value t s c.args.broken.now c.in_default.is c.requires.running start).going);
             writes = λ is alone. absurd (stands_not none (c.in-Err.ensures.no_writes is));
             nodes = λ is. absurd (stands_not none (c.in-Err.ensures.stop.no_nodes is));
           });

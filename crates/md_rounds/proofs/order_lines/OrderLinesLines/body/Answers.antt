@@ -1,4 +1,3 @@
-use Rattle.std.proofs.Common.{rules}
 use Rattle.md_rounds.proofs.order_lines.OrderLinesLines.body.Goals as goal
 
 pub returns : goal.returns

@@ -38,7 +38,10 @@ impl Plain {
     // Makes an operation. `None` if its map or its queue isn't there.
     pub(super) fn make<R: Abort>(&mut self, rt: &R, op: Op) -> Option<Reply> {
         match op {
-            Op::Get { map, .. } | Op::Insert { map, .. } | Op::Remove { map, .. } => {
+            Op::Get { map, .. }
+            | Op::Insert { map, .. }
+            | Op::Remove { map, .. }
+            | Op::Put { map, .. } => {
                 let map = self.maps.get_mut(map as usize)?;
                 Some(on_map(rt, map, op))
             }
@@ -59,6 +62,7 @@ fn on_map<R: Abort>(rt: &R, map: &mut BTreeMap<u64, u64>, op: Op) -> Reply {
         Op::Get { key, .. } => Reply::Value(map.get(&key).copied()),
         Op::Remove { key, .. } => Reply::Value(map.remove(&key)),
         Op::Insert { key, value, .. } => Reply::Flag(insert(rt, map, key, value)),
+        Op::Put { key, value, .. } => Reply::Value(put(rt, map, key, value)),
         _ => Reply::Nothing,
     }
 }
@@ -71,6 +75,12 @@ fn insert<R: Abort>(rt: &R, map: &mut BTreeMap<u64, u64>, key: u64, value: u64) 
         kept.expect(rt, "memory");
     }
     absent
+}
+
+// Sets a key's value. Its old one.
+fn put<R: Abort>(rt: &R, map: &mut BTreeMap<u64, u64>, key: u64, value: u64) -> Option<u64> {
+    let old: Result<_, _> = map.insert(key, value);
+    old.expect(rt, "memory")
 }
 
 // Makes an operation of a queue.

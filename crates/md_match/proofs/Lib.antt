@@ -1,0 +1,5 @@
+pub mod sweeps
+pub mod trading
+pub mod scripts
+pub mod prices
+pub mod steps

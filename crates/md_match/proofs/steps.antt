@@ -1,0 +1,10 @@
+pub mod Frames
+pub mod Looks
+pub mod Few
+pub mod Sweeping
+pub mod Stepping
+pub mod Finishing
+pub mod Matching
+pub mod Cancelling
+pub mod TheBook
+pub mod Room

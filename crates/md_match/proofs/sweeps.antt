@@ -1,0 +1,5 @@
+pub mod Ranges
+pub mod BestPrices
+pub mod Sweeps
+pub mod Uncrossed
+pub mod WorkedDays

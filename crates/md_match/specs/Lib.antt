@@ -1,0 +1,9 @@
+pub mod Matching
+pub mod Commands
+pub mod Crossing
+pub mod Trading
+pub mod Days
+pub mod Stands
+pub mod Scripts
+pub mod Sweeping
+pub mod Meets
