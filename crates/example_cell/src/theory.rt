@@ -1,6 +1,7 @@
 //! A cell as a theory, and what holds of it over all schedules.
 
 ghost use Rattle.md_machine.specs.Legal.{AlwaysMeant};
+ghost use Rattle.md_machine.specs.Serial.{SchedulesAreSerial};
 ghost use Rattle.md_machine.specs.Theorem.{AlwaysKept, AlwaysGoesOn};
 ghost use Rattle.example_cell.specs.CellMeaning.{cell_meaning};
 
@@ -23,6 +24,7 @@ pub fn cell_schedules()
     ensures kept { AlwaysKept cell_meaning }
     ensures goes_on { AlwaysGoesOn cell_meaning }
     ensures legal { AlwaysMeant cell_meaning }
+    ensures serial { SchedulesAreSerial cell_meaning }
 {
     all_schedules::<CellTheory>();
 }

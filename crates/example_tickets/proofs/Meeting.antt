@@ -15,7 +15,8 @@ use Rattle.md_machine.specs.Event.{exchange, load}
 use Rattle.md_machine.specs.Machine.{content, shape_of}
 use Rattle.md_machine.specs.Stepping.{left_by, step_of}
 use Rattle.md_machine.specs.clauses.words.Stamps.{IsNoted}
-use Rattle.md_machine.specs.Trail.{Meets, SomeStepOf}
+use Rattle.md_machine.specs.Trail.{Meets, SomeStepOf, StepOf}
+use Rattle.md_machine.specs.clauses.words.RaisedOnce.{Raises}
 use Rattle.md_machine.specs.events.Exchange.{exchanged_word}
 use Rattle.example_cell.specs.CellMeaning.{cell_meaning, cell_word}
 use Rattle.example_cell.proofs.Tidy.{cell_counted}
@@ -23,7 +24,7 @@ use Rattle.md_rule.specs.Steps.{Exchanged, SteppedFrom}
 use Rattle.md_rule.specs.Views.{Origin}
 use Rattle.md_rule.proofs.Moves.{is_kept}
 use Rattle.md_rule.proofs.Told.{told_exchange, told_load}
-use Rattle.example_tickets.specs.Taken.{FoundNone, TakenBelow}
+use Rattle.example_tickets.specs.Taken.{FoundNone, TakenBelow, Takes, TicketsAreTakenOnce, TookTicket}
 
 -- a pass made one more step
 record OneMore (p q : PassView) : Type 0 where
@@ -125,3 +126,43 @@ module _ (o : Origin) where
         there = refl;
         why = inr (inr (refl, ap (λ b. either b new (content n cell)) (ne_eqb (content n cell) from differs)));
       }
+
+  -- a load and an exchange that wins take the ticket that the load found
+  pub took : (from to held : ℕ) (p q r : PassView) → SteppedFrom cell_meaning o (λ pass. load pass (cell_word o.shape)) (cell_word o.shape) held p q
+      → SteppedFrom cell_meaning o (λ pass. exchange pass (cell_word o.shape) from to) (cell_word o.shape) from q r
+      → count_of from ≤ LAST_COUNT → TookTicket o.shape (count_of from) p r
+  took from to held p q r loaded (s, is) few =
+      let m = loaded.0.machine in
+      let word = cell_word o.shape in
+      let new = exchanged_word from to in
+      let left : left_by s.machine word from new ≡ new = ap (λ b. either b new (content s.machine word)) (eq-eqb (content s.machine word) from is) in
+      let first = step_of m p Load word (content m word) in
+      let second = step_of s.machine q Exchange word (left_by s.machine word from new) in record {
+        look = first;
+        take = second;
+        made = ap (λ (x : PassView). x.trail) (told_exchange cell_meaning o q r word from to s).1
+            ∙ ap (λ l. l ++ second ∷ []) (ap (λ (x : PassView). x.trail) (told_load cell_meaning o p q word loaded.0))
+            ∙ append_assoc p.trail (first ∷ []) (second ∷ []);
+        looks = (refl, refl);
+        takes = record {
+          kind = refl;
+          there = refl;
+          from = ap count_of is;
+          left = ap count_of left ∙ count_of-counted_word to (count_of from + 2) (omega (arith, few));
+        };
+      }
+
+-- a step that took a ticket raised the cell's word, and one step alone raised it from there
+abbrev raised : (shape : Shape) (ticket : ℕ) (p : PassView) → StepOf p (Takes shape ticket) → StepOf p (Raises (cell_word shape) ticket)
+raised shape ticket p a = record {
+  earlier = a.earlier;
+  step = a.step;
+  later = a.later;
+  segment = a.segment;
+  such = record { there = a.such.there; from = a.such.from; higher = (let left = a.such.left in omega (arith, left)) };
+}
+
+pub taken_once : TicketsAreTakenOnce
+taken_once o m admitted ticket i j p q at there a b =
+    let counted : IsCounted (shape_of m) (cell_word o.shape) = rw admitted.shape (cell_counted o.shape) in
+    (is_kept cell_meaning o m admitted).raised_once (cell_word o.shape) ticket counted i j p q at there (raised o.shape ticket p a) (raised o.shape ticket q b)

@@ -8,7 +8,7 @@
 #![tactic(auto)]
 
 pub use opening::dispenser;
-pub use tickets::{renew, take_ticket, ticket_word};
+pub use tickets::{renew, take_ticket, ticket_word, tickets_are_taken_once};
 
 mod opening;
 mod tickets;

@@ -8,7 +8,8 @@ ghost use Rattle.md_machine.specs.Event.{exchange};
 ghost use Rattle.example_cell.specs.CellMeaning.{cell_meaning, cell_word};
 ghost use Rattle.md_rule.specs.Steps.{Exchanged};
 ghost use Rattle.md_rule.specs.Views.{IsOf};
-ghost use Rattle.example_tickets.specs.Taken.{FoundNone, TakenBelow};
+ghost use Rattle.example_tickets.specs.Taken.{FoundNone, TakenBelow, TicketsAreTakenOnce};
+ghost use Rattle.example_tickets.specs.Taken.{TookTicket};
 
 use example_cell::CellTheory;
 use md_machine::step::LAST_COUNT;
@@ -38,6 +39,8 @@ pub fn take_ticket(field: &Field<CellTheory>, pass: &mut Pass<CellTheory>) -> Op
         → TakenBelow field.now.origin.shape pass.old.view n → n ≤ ticket) }
     ensures taken { IfSome result (λ ticket.
         TakenBelow field.now.origin.shape pass.new.view (ticket + 2) × (ticket ≤ LAST_COUNT)) }
+    ensures took { IfSome result (λ ticket.
+        TookTicket field.now.origin.shape ticket pass.old.view pass.new.view) }
     ensures none { IfNone result (FoundNone field.now.origin.shape pass.old.view pass.new.view) }
 {
     let word = ticket_word(field);
@@ -50,6 +53,12 @@ pub fn take_ticket(field: &Field<CellTheory>, pass: &mut Pass<CellTheory>) -> Op
         Err(_) => None,
     }
 }
+
+/// Two passes never get one ticket. This does nothing: its contract is a law on all machines of a
+/// dispenser. All steps that took a ticket are one step, which two passes know only after a split.
+pub fn tickets_are_taken_once()
+    ensures { TicketsAreTakenOnce }
+{}
 
 /// Exchanges a content of the cell's word for the same value with a count that is 2 more. The
 /// content is even, and its count is at most `LAST_COUNT`. It returns `Ok` exactly if the word held

@@ -1,6 +1,7 @@
 //! The theory of hash tables.
 
 ghost use Rattle.md_machine.specs.Legal.{AlwaysMeant};
+ghost use Rattle.md_machine.specs.Serial.{SchedulesAreSerial};
 ghost use Rattle.md_machine.specs.Theorem.{AlwaysKept, AlwaysGoesOn};
 ghost use Rattle.md_hash_law.specs.HashTable.{hash_table};
 ghost use Rattle.md_hash_law.specs.Rows.{WorkedTables};
@@ -37,6 +38,7 @@ pub fn hash_table_schedules()
     ensures kept { AlwaysKept hash_table }
     ensures goes_on { AlwaysGoesOn hash_table }
     ensures legal { AlwaysMeant hash_table }
+    ensures serial { SchedulesAreSerial hash_table }
 {
     all_schedules::<HashTheory>();
 }

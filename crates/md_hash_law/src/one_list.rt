@@ -1,6 +1,7 @@
 //! The theory of one list, of which md_list_law has the definitions and proves the laws.
 
 ghost use Rattle.md_machine.specs.Legal.{AlwaysMeant};
+ghost use Rattle.md_machine.specs.Serial.{SchedulesAreSerial};
 ghost use Rattle.md_machine.specs.Theorem.{AlwaysKept, AlwaysGoesOn};
 ghost use Rattle.md_list_law.specs.OneList.{one_list};
 
@@ -22,6 +23,7 @@ pub fn one_list_schedules()
     ensures kept { AlwaysKept one_list }
     ensures goes_on { AlwaysGoesOn one_list }
     ensures legal { AlwaysMeant one_list }
+    ensures serial { SchedulesAreSerial one_list }
 {
     all_schedules::<ListTheory>();
 }

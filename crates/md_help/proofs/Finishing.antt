@@ -1,5 +1,5 @@
 -- A clearing put together from its steps.
-use Rattle.std.proofs.Common.{◌≡◌, ◌≢◌, ◌==◌, not, ◌+◌, ◌≤◌, ℕ, true, false, List, [], ◌∷◌, ◌++◌, length, refl, sym, ap, ◌∙◌, subst, inl, inr, ⊎_elim, arith, eq-eqb, append_assoc, length-append}
+use Rattle.std.proofs.Common.{◌≡◌, ◌≢◌, ◌==◌, not, ◌+◌, ◌<◌, ◌≤◌, ℕ, true, false, List, [], ◌∷◌, ◌++◌, length, refl, sym, ap, ◌∙◌, subst, inl, inr, ⊎_elim, arith, eq-eqb, append_assoc, length-append}
 use Rattle.std.specs.List.{All, Contains}
 use Rattle.std.proofs.lemmas.Bool.{and_from}
 use Rattle.std.proofs.lemmas.List.Elements.{All-append, All-cons, All-nil, All-weaker, Contains-append_right, Contains-push}
@@ -116,12 +116,12 @@ module _ (shape : Shape) (word from : ℕ) where
     (let a = f.3 in let l = length-append steps extra in omega (arith, a, l, h)),
   )
 
-  pub finishes_gone : (status left : ℕ) (p q r : PassView) → Settled shape desc status 2 Gone p q → (m : Made shape Load word left left q r) → (NotesWord q.placed (place_at shape word) → m.step.placed ≡ true) → left ≢ from → Finishes shape word from status (record { end = Gone; left = left }) p r
-  finishes_gone status left p q r t m flag empty = record {
+  pub finishes_gone : (status left : ℕ) (p q r : PassView) → Settled shape desc status 2 Gone p q → (m : Made shape Load word left left q r) → (NotesWord q.placed (place_at shape word) → m.step.placed ≡ true) → count_of from < count_of left → Finishes shape word from status (record { end = Gone; left = left }) p r
+  finishes_gone status left p q r t m flag rises = record {
     steps = t.steps ++ m.step ∷ [];
     goes = both_after shape t.steps (m.step ∷ []) p q r t.goes m.goes;
     few = few_more status t.steps (m.step ∷ []) t.few (omega arith);
-    empty = empty;
+    rises = rises;
     still = All-append StaysSame t.steps (m.step ∷ []) (settling_same t.steps t.changes) (one_load word left q r m);
     noted = flags_last shape Load word left left t.steps p q r t.goes m flag;
     ends = record { settling = t.steps; last = m.step; order = refl; changes = t.changes; other = t.ends; looks = load_finds shape word left left q r m };
@@ -137,7 +137,7 @@ module _ (shape : Shape) (word from : ℕ) where
     steps = t.steps ++ k.slot ∷ k.take ∷ [];
     goes = both_after shape t.steps (k.slot ∷ k.take ∷ []) p q r t.goes k.goes;
     few = few_more status t.steps (k.slot ∷ k.take ∷ []) t.few (omega arith);
-    empty = k.empty;
+    rises = k.rises;
     still = All-append StaysSame t.steps (k.slot ∷ k.take ∷ []) (settling_same t.steps t.changes) k.still;
     noted = λ n. some_right (λ s. Meets word left s × (s.placed ≡ true)) t.steps (k.slot ∷ k.take ∷ []) (k.noted (noted_after shape t.steps p q (place_at shape word) t.goes n));
     ends = ends_later status left end (t.steps ++ k.slot ∷ k.take ∷ []) n (record {
@@ -153,8 +153,8 @@ module _ (shape : Shape) (word from : ℕ) where
     });
   }
 
-  pub clears_gone : (status left : ℕ) (p q r : PassView) → Made shape Load (status_of_desc shape from) status status p q → (b : Made shape Load word left left q r) → (NotesWord q.placed (place_at shape word) → b.step.placed ≡ true) → left ≢ from → Clears shape word from (record { end = Gone; left = left }) p r
-  clears_gone status left p q r a b flag empty = record {
+  pub clears_gone : (status left : ℕ) (p q r : PassView) → Made shape Load (status_of_desc shape from) status status p q → (b : Made shape Load word left left q r) → (NotesWord q.placed (place_at shape word) → b.step.placed ≡ true) → count_of from < count_of left → Clears shape word from (record { end = Gone; left = left }) p r
+  clears_gone status left p q r a b flag rises = record {
     status = status;
     ask = a.step;
     look = b.step;
@@ -162,7 +162,7 @@ module _ (shape : Shape) (word from : ℕ) where
     goes = both_after shape (a.step ∷ []) (b.step ∷ []) p q r a.goes b.goes;
     asks = load_finds shape (status_of_desc shape from) status status p q a;
     few = (status, refl, inl refl, omega arith);
-    empty = empty;
+    rises = rises;
     still = All-append StaysSame (a.step ∷ []) (b.step ∷ []) (one_load (status_of_desc shape from) status p q a) (one_load word left q r b);
     noted = flags_last shape Load word left left (a.step ∷ []) p q r a.goes b flag;
     ends = inl (load_finds shape word left left q r b, refl, refl);
@@ -178,7 +178,7 @@ module _ (shape : Shape) (word from : ℕ) where
         goes = both_after shape (a.step ∷ b.step ∷ []) f.steps p r t looked f.goes;
         asks = load_finds shape (status_of_desc shape from) status status p q a;
         few = f.few;
-        empty = f.empty;
+        rises = f.rises;
         still = All-append StaysSame (a.step ∷ []) (b.step ∷ f.steps) (one_load (status_of_desc shape from) status p q a)
             (All-append StaysSame (b.step ∷ []) f.steps (one_load word from q r b) f.still);
         noted = λ n. some_right (λ s. Meets word c.left s × (s.placed ≡ true)) (a.step ∷ b.step ∷ []) f.steps (f.noted (noted_after shape (a.step ∷ b.step ∷ []) p r (place_at shape word) looked n));

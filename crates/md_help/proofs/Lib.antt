@@ -7,3 +7,4 @@ pub mod Ends
 pub mod Flagged
 pub mod Taking
 pub mod Finishing
+pub mod Decided

@@ -18,7 +18,7 @@ use Rattle.md_machine.specs.declared.step.Step.{Step}
 use Rattle.md_machine.specs.declared.step.TheConstants.{LAST_COUNT}
 use Rattle.md_machine.specs.Event.{load, uninstall}
 use Rattle.md_machine.specs.Meaning.{Meaning}
-use Rattle.md_machine.specs.Trail.{Loads, segments}
+use Rattle.md_machine.specs.Trail.{Finds, Loads, SomeStep, segments}
 use Rattle.md_machine.specs.clauses.nodes.Flags.{NotesWord}
 use Rattle.md_machine.specs.clauses.words.Brackets.{MeetsOdd, NotesStanding}
 use Rattle.md_machine.specs.events.Uninstall.{HelperSaw, IsDecided, after_uninstall, desc_in, slot_by_fate, status_of_desc, uninstalled_word, value_by_fate}
@@ -31,6 +31,7 @@ use Rattle.md_help.specs.declared.settling.End.TheVariants.{Committed, Aborted, 
 use Rattle.md_help.specs.After.{IsAfter}
 use Rattle.md_help.specs.Clears.{SawDecided, SawTwice, SlotLoaded, TakenOut, fate_of}
 use Rattle.md_help.specs.Settles.{FindsOther}
+use Rattle.md_help.proofs.Decided.{found_after, found_rises}
 use Rattle.md_help.proofs.Deciding.{lost_exchange, won_exchange}
 use Rattle.md_help.proofs.Flagged.{flags_last}
 use Rattle.md_help.proofs.Numbers.{formats_of}
@@ -116,7 +117,7 @@ module _ (M : Meaning) (o : Origin) where
 
   -- where a later attempt's status was found, the word doesn't hold any more what it held: what stands there is of the present
   -- attempt, and the statuses that were found since it was met would all be of that
-  pub gone_apart : (word from status left : ℕ) (steps : List Step) (p q r : PassView) → IsCounted o.shape word → is_even (count_of from) ≡ false → SawTwice o.shape p word from status → IsAfter o.shape steps p q
+  gone_apart : (word from status left : ℕ) (steps : List Step) (p q r : PassView) → IsCounted o.shape word → is_even (count_of from) ≡ false → SawTwice o.shape p word from status → IsAfter o.shape steps p q
       → FindsOther o.shape (desc_in from) status steps → SteppedFrom M o (λ pass. load pass word) word left q r → left ≢ from
   gone_apart word from status left steps p q r counted odd saw goes other (s, is) e =
       let m = s.machine in
@@ -124,7 +125,7 @@ module _ (M : Meaning) (o : Origin) where
       let segment : Contains (segments q) (saw.earlier ++ saw.found ∷ later) = subst (Contains (segments q))
       (trail_after o.shape steps p q goes ∙ ap (λ t. t ++ steps) saw.trail ∙ append_assoc saw.earlier (saw.found ∷ (saw.first ++ saw.ask ∷ saw.look ∷ [])) steps)
       (Contains-push q.past q.trail) in
-      let stands : (t : Step) → Contains later t → NotesStanding o.shape m.words saw.found t = λ t c. subst (λ (h : Shape). NotesStanding h m.words saw.found t) s.admitted.shape ((is_kept M o m s.admitted).brackets.standing s.pass q s.acts.at saw.earlier saw.found later segment t c) in
+      let stands : (t : Step) → Contains later t → NotesStanding o.shape m.words saw.found t = λ t c. subst (λ (h : Shape). NotesStanding h m.words saw.found t) s.admitted.shape ((is_kept M o m s.admitted).brackets s.pass q s.acts.at saw.earlier saw.found later segment t c) in
       let here' : slice_index m.words saw.found.word ≡ from = ap (slice_index m.words) saw.finds.there ∙ is ∙ e in
       let met : MeetsOdd o.shape saw.found.word (slice_index m.words saw.found.word) saw.found = record {
         counted = subst (IsCounted o.shape) (sym saw.finds.there) counted;
@@ -138,17 +139,26 @@ module _ (M : Meaning) (o : Origin) where
       let two = stands other.2.0 other_in met (other.2.2.there ∙ ap (status_of_desc o.shape) (sym here')) in
       other.1 (ap serial_of (sym other.2.2.before) ∙ two.before ∙ sym one.before ∙ ap serial_of saw.asks.finds.before)
 
--- an uninstall that won leaves another count
-pub count_apart : (from value : ℕ) → count_of from ≤ LAST_COUNT + 1 → uninstalled_word from value ≢ from
-count_apart from value fits e =
-    let is = count_of-counted_word value (count_of from + 1) (omega (arith, fits)) in
-    let same = ap count_of e in
-    omega (arith, is, same)
+  pub gone_rises : (word from status left : ℕ) (steps : List Step) (p q r : PassView) → IsCounted o.shape word → is_even (count_of from) ≡ false → SawTwice o.shape p word from status → IsAfter o.shape steps p q
+      → FindsOther o.shape (desc_in from) status steps → SteppedFrom M o (λ pass. load pass word) word left q r → count_of from < count_of left
+  gone_rises word from status left steps p q r counted odd saw goes other step =
+      let found : SomeStep (Finds word from) p.trail = (
+        saw.found,
+        subst (λ t. Contains t saw.found) (sym saw.trail)
+            (Contains-append_right saw.earlier (saw.found ∷ (saw.first ++ saw.ask ∷ saw.look ∷ [])) saw.found (0, omega arith, refl)),
+        saw.finds,
+      ) in
+      found_rises M o (λ pass. load pass word) word from left q r counted (found_after o.shape word from steps p q goes found)
+      (gone_apart word from status left steps p q r counted odd saw goes other step) step
+
+-- an uninstall that won leaves a higher count
+pub count_rises : (from value : ℕ) → count_of from ≤ LAST_COUNT + 1 → count_of from < count_of (uninstalled_word from value)
+count_rises from value fits = let is = count_of-counted_word value (count_of from + 1) (omega (arith, fits)) in omega (arith, is)
 
 pub taken_out : (shape : Shape) (word from value before left : ℕ) (fate : Status) (p q r : PassView) → (l : SlotLoaded shape from fate value p q) → (m : Made shape Uninstall word before left q r)
-    → ((before ≡ from) × (left ≡ uninstalled_word from value)) ⊎ ((before ≢ from) × (left ≡ before)) → left ≢ from
+    → ((before ≡ from) × (left ≡ uninstalled_word from value)) ⊎ ((before ≢ from) × (left ≡ before)) → count_of from < count_of left
     → (NotesWord q.placed (place_at shape word) → m.step.placed ≡ true) → TakenOut shape word from fate left p r
-taken_out shape word from value before left fate p q r l m won empty flag = record {
+taken_out shape word from value before left fate p q r l m won rises flag = record {
   slot = l.slot;
   take = m.step;
   goes = both_after shape (l.slot ∷ []) (m.step ∷ []) p q r l.goes m.goes;
@@ -160,7 +170,7 @@ taken_out shape word from value before left fate p q r l m won empty flag = reco
     leaves = m.left_it;
     won = ⊎_elim (λ w. inl (m.found ∙ w.0, w.1 ∙ ap (uninstalled_word from) (sym l.is))) (λ w. inr ((λ e. w.0 (sym m.found ∙ e)), w.1 ∙ sym m.found)) won;
   };
-  empty = empty;
+  rises = rises;
   still = All-cons StaysSame l.slot (m.step ∷ []) (λ _. l.same) (All-cons StaysSame m.step [] (λ is. absurd (no_load is)) (All-nil StaysSame));
   noted = flags_last shape Uninstall word before left (l.slot ∷ []) p q r l.goes m flag;
 }

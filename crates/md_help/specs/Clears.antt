@@ -105,7 +105,7 @@ pub record TakenOut (shape : Shape) (word from : ℕ) (fate : Status) (left : �
   pub held : ℕ
   pub loads : Loads (address shape (slot_by_fate fate (spot_of (value_of from)))) held slot
   pub takes : TakesOut word from (value_by_fate fate held) left take
-  pub empty : left ≢ from
+  pub rises : count_of from < count_of left
   pub still : LoadsChangeNothing (slot ∷ take ∷ [])
   pub noted : FlagsNoted shape before word left (slot ∷ take ∷ [])
 
@@ -148,7 +148,7 @@ pub record Finishes (shape : Shape) (word from status : ℕ) (c : Cleared) (befo
   pub steps : List Step
   pub goes : IsAfter shape steps before after
   pub few : AreFewSteps shape (desc_in from) status 4 steps
-  pub empty : c.left ≢ from
+  pub rises : count_of from < count_of c.left
   pub still : LoadsChangeNothing steps
   pub noted : FlagsNoted shape before word c.left steps
   pub ends : EndsLater shape word from status c.end c.left steps
@@ -163,7 +163,7 @@ pub record Clears (shape : Shape) (word from : ℕ) (c : Cleared) (before after 
   pub goes : IsAfter shape (ask ∷ look ∷ steps) before after
   pub asks : Loads (status_of_desc shape from) status ask
   pub few : AreFewSteps shape (desc_in from) status 4 steps
-  pub empty : c.left ≢ from
+  pub rises : count_of from < count_of c.left
   pub still : LoadsChangeNothing (ask ∷ look ∷ steps)
   pub noted : FlagsNoted shape before word c.left (ask ∷ look ∷ steps)
   pub ends : (Loads word c.left look × (c.end ≡ Gone) × (steps ≡ []))

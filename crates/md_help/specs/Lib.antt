@@ -3,3 +3,4 @@ pub mod Reads
 pub mod Settles
 pub mod Clears
 pub mod Owns
+pub mod Decided

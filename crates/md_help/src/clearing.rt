@@ -10,6 +10,7 @@ ghost use Rattle.md_rule.specs.Views.{IsOf};
 ghost use Rattle.md_help.specs.After.{OnlySteps, StandsInField};
 ghost use Rattle.md_help.specs.Clears.{Clears, Finishes, IsInTheWay, NamesSlot, SawDecided};
 ghost use Rattle.md_help.specs.Clears.{SawTwice, SlotLoaded, TakenOut, fate_of};
+ghost use Rattle.md_help.specs.Decided.{WasDecided};
 ghost use Rattle.md_help.specs.declared.settling.End.TheVariants.{Gone};
 
 use crate::settling::{End, settle};
@@ -28,8 +29,8 @@ pub struct Cleared {
 /// most `3r + 6` steps of this pass, whatever others do; `r` is the number of the attempt's reads.
 /// An attempt that isn't ready is aborted. One that is ready is committed if all its reads stand,
 /// and aborted otherwise. It is Gone exactly if the word didn't hold `found` when it was looked at
-/// again, before the settling, or after it found another attempt's status. In each case
-/// the word doesn't hold `found` afterwards.
+/// again, before the settling, or after it found another attempt's status. In each case the attempt
+/// is decided, and the word has a higher count than `found` afterwards.
 ///
 /// The word is a counted word, and `found` has an odd count; a step of this pass found it there
 /// since the last join. The descriptor that stands there exists, and isn't that of the transaction
@@ -43,6 +44,7 @@ pub fn clear<T: Theory>(field: &Field<T>, pass: &mut Pass<T>, word: u32, found: 
     ensures stands { StandsInField T.meaning field.now.origin pass.new.view }
     ensures clears { Clears field.now.origin.shape word (word_of found) result pass.old.view
         pass.new.view }
+    ensures decided { WasDecided T.meaning field.now.origin word (word_of found) pass.new.view }
 {
     let desc = spot_in(found).desc;
     let status = pass.load(field, field.shape().status(desc));

@@ -11,11 +11,11 @@ use Rattle.md_history.specs.FrontLaws.{all_stay-self}
 use Rattle.md_machine.specs.declared.attempt.AttemptId.{AttemptId}
 use Rattle.md_machine.specs.declared.opening.Opening.{Opening}
 use Rattle.md_machine.proofs.clauses.passes.Alone.{HoldersFind, alone-kept, holders_alone}
-use Rattle.md_machine.proofs.clauses.words.Brackets.{TrailsBracket, between-kept, brackets-kept, old_brackets}
+use Rattle.md_machine.proofs.clauses.words.Brackets.{TrailsBracket, brackets-kept}
 use Rattle.md_machine.proofs.clauses.slots.Clean.{clean-kept}
 use Rattle.md_machine.proofs.clauses.entries.Entries.{entries-kept}
 use Rattle.md_machine.proofs.clauses.entries.EntriesFit.{EntriesFit, ReadsCounted, entry_fits}
-use Rattle.md_machine.proofs.clauses.slots.EntrySlots.{entry_slots-kept}
+use Rattle.md_machine.proofs.clauses.slots.EntrySlots.{EntriesKeepSlots, entry_slots-kept}
 use Rattle.md_machine.proofs.clauses.nodes.EvenNexts.{even_nexts-kept}
 use Rattle.md_machine.proofs.clauses.entries.Fates.{fates-kept}
 use Rattle.md_machine.proofs.clauses.nodes.Flags.{Noting, flags-kept}
@@ -36,7 +36,7 @@ use Rattle.md_machine.proofs.clauses.passes.Mine.{mine-kept}
 use Rattle.md_machine.proofs.clauses.words.NodeWords.{node_words-kept}
 use Rattle.md_machine.proofs.clauses.entries.Numbered.{numbered-kept}
 use Rattle.md_machine.proofs.clauses.slots.OddWords.{odd_words-kept}
-use Rattle.md_machine.proofs.clauses.words.OldSlots.{old_slots-kept}
+use Rattle.md_machine.proofs.clauses.words.OldSlots.{OldSlotStands, old_slots-kept}
 use Rattle.md_machine.proofs.clauses.passes.OwnBegun.{own_begun-kept}
 use Rattle.md_machine.proofs.clauses.passes.BegunNoLater.{begun_no_later-kept, steps_no_later}
 use Rattle.md_machine.proofs.clauses.passes.StepsBegun.{steps_begun-kept}
@@ -51,9 +51,10 @@ use Rattle.md_machine.proofs.clauses.nodes.Noted.{noted-kept}
 use Rattle.md_machine.proofs.clauses.nodes.Placed.{NotedAlways, placed-kept}
 use Rattle.md_machine.proofs.clauses.nodes.PlacedOnce.{AliveOnce, noted_structure, placed_once-kept}
 use Rattle.md_machine.proofs.clauses.entries.PresentEntries.{present_entries-kept}
+use Rattle.md_machine.proofs.clauses.words.RaisedOnce.{raised_once-kept}
 use Rattle.md_machine.proofs.clauses.words.Reads.{reads-kept}
 use Rattle.md_machine.proofs.clauses.entries.ReadyEntries.{ReadyHaveEntries, ready_entries-kept}
-use Rattle.md_machine.proofs.clauses.entries.Rooted.{rooted-kept}
+use Rattle.md_machine.proofs.clauses.entries.Rooted.{EntriesRooted, rooted-kept}
 use Rattle.md_machine.proofs.clauses.entries.Serials.{serials-kept}
 use Rattle.md_machine.proofs.clauses.entries.Sound.{sound-kept}
 use Rattle.md_machine.proofs.clauses.words.Stamps.{Stamp, Stamped, StampsKept, stamp_more, stamps-kept, stamps_hold}
@@ -70,15 +71,13 @@ use Rattle.md_machine.proofs.events.UninstallValue.{UninstallRests}
 use Rattle.md_machine.proofs.events.WordChanges.{counts_rise, statuses_go_on, stays_on}
 use Rattle.md_machine.proofs.lists.Pairs.{EachPair, pairs_of}
 use Rattle.md_machine.proofs.lists.Rising.{here, there}
-use Rattle.md_machine.proofs.lists.Triples.{EachTriple, triples_of}
 use Rattle.md_machine.specs.Event.{Does, Event, Plays, Runs}
 use Rattle.md_machine.specs.GoesOn.{MachineGoesOn, StatusGoesOn}
 use Rattle.md_machine.specs.Machine.{IsPresentIn, Machine, content, shape_of, status_at, word_at}
 use Rattle.md_machine.specs.Meaning.{Meaning}
 use Rattle.md_machine.specs.Theorem.{IsKept}
 use Rattle.md_machine.specs.clauses.passes.Alone.{HoldsAll, LastStand}
-use Rattle.md_machine.specs.clauses.words.Brackets.{NotesBetween, NotesStanding}
-use Rattle.md_machine.specs.clauses.slots.EntrySlots.{EntriesKeepSlots}
+use Rattle.md_machine.specs.clauses.words.Brackets.{NotesStanding}
 use Rattle.md_machine.specs.clauses.entries.Fates.{PastKnown}
 use Rattle.md_machine.specs.clauses.nodes.Flags.{FlaggedAreNoted}
 use Rattle.md_machine.specs.clauses.words.Formats.{AreFormats}
@@ -92,7 +91,6 @@ use Rattle.md_machine.specs.clauses.words.Loads.{LoadStands}
 use Rattle.md_machine.specs.clauses.words.NodeWords.{DataStands, NodeWordsStand}
 use Rattle.md_machine.specs.clauses.entries.Numbered.{EntriesNumbered}
 use Rattle.md_machine.specs.clauses.slots.OddWords.{OddStand}
-use Rattle.md_machine.specs.clauses.words.OldSlots.{OldSlotStands}
 use Rattle.md_machine.specs.clauses.passes.OwnBegun.{OwnBegunShown}
 use Rattle.md_machine.specs.clauses.passes.BegunNoLater.{BegunAreNoLater}
 use Rattle.md_machine.specs.clauses.passes.StepsBegun.{StepsAreBegun}
@@ -101,8 +99,8 @@ use Rattle.md_machine.specs.clauses.nodes.OwnNexts.{OwnNextsShown, ShowsOwnNext}
 use Rattle.md_machine.specs.clauses.nodes.OwnNodes.{OwnNodesSeen}
 use Rattle.md_machine.specs.clauses.passes.OwnSerials.{OwnSerialsMet}
 use Rattle.md_machine.specs.clauses.nodes.OwnWords.{NodesKeep, OwnWordsStand}
+use Rattle.md_machine.specs.clauses.words.RaisedOnce.{RaisedOnce}
 use Rattle.md_machine.specs.clauses.words.Reads.{MovedReads, ReadFound}
-use Rattle.md_machine.specs.clauses.entries.Rooted.{EntriesRooted}
 use Rattle.md_machine.specs.clauses.entries.Serials.{EntriesInTurn}
 use Rattle.md_machine.specs.clauses.entries.Sound.{CommittedAreSound}
 use Rattle.md_machine.specs.clauses.words.Stamps.{NotedByRead}
@@ -125,7 +123,6 @@ pub record Invariant (m : Machine) : Type 0 where
   pub odd_words : OddStand (shape_of m) m.words m.installs
   pub statuses : StatusesCame (shape_of m) m.words m.passes
   pub brackets : TrailsBracket (shape_of m) m.words m.passes
-  pub between : EachTriple (NotesBetween (shape_of m) m.installs) m.passes
   pub undecided : UndecidedStand (shape_of m) m.words m.installs
   pub flags : FlaggedAreNoted m
   pub node_words : NodeWordsStand m
@@ -155,6 +152,7 @@ pub record Invariant (m : Machine) : Type 0 where
   pub alone : HoldersFind m
   pub own_nexts : OwnNextsShown m
   pub rooted : EntriesRooted m
+  pub raised_once : RaisedOnce (shape_of m) m.passes
   pub stamp : Stamp
   pub stamps : StampsKept m stamp
 
@@ -204,11 +202,7 @@ kept_by m k = record {
   odd_words = k.odd_words;
   undecided = k.undecided;
   statuses = k.statuses;
-  brackets = record {
-    standing = λ pass p at earlier s later segment t c. pairs_of (NotesStanding (shape_of m) m.words) earlier s later t (k.brackets pass p at (earlier ++ s ∷ later) segment) c;
-    between = λ pass p at earlier s middle u later segment t c. triples_of (NotesBetween (shape_of m) m.installs) earlier s middle u later t (k.between pass p at (earlier ++ s ∷ (middle ++ u ∷ later)) segment) c;
-  };
-  old_slots = λ pass p at earlier s later segment t c. pairs_of (OldSlotStands (shape_of m) m.words) earlier s later t (k.old_slots pass p at (earlier ++ s ∷ later) segment) c;
+  brackets = λ pass p at earlier s later segment t c. pairs_of (NotesStanding (shape_of m) m.words) earlier s later t (k.brackets pass p at (earlier ++ s ∷ later) segment) c;
   slots = slots-kept m k.installs;
   fates = fates-kept m k.entries k.past k.known_past;
   fronts = k.fronts;
@@ -225,13 +219,12 @@ kept_by m k = record {
   pending_begun = k.pending_begun;
   own_nodes = k.own_nodes;
   own_words = k.own_words;
+  raised_once = k.raised_once;
   met_spots = k.met_spots;
   uninstalls = uninstalls-kept m (rests_of m k);
   clean = clean-kept m k.stamp k.stamps k.installs k.odd_words;
   present_entries = present_entries-kept m k.read_counts k.ready_entries;
   free_nodes = free_nodes-kept m k.opening_base k.fronts k.numbered.distinct k.sound.sound k.own_nodes;
-  entry_slots = k.entry_slots;
-  in_hand = k.in_hand.alone;
   loads = λ pass p at earlier s later segment t c. pairs_of (LoadStands (shape_of m) m.words m.history) earlier s later t (k.loads pass p at (earlier ++ s ∷ later) segment) c;
   reads = record { moved = k.moved_reads; found = λ pass p at earlier s later segment t c. pairs_of (ReadFound (shape_of m) m.history) earlier s later t (k.found_reads pass p at (earlier ++ s ∷ later) segment) c };
   sound = k.sound;
@@ -241,7 +234,6 @@ kept_by m k = record {
   mine = k.mine;
   alone = holders_alone m k.lanes k.fronts k.known_past k.numbered k.alone;
   own_nexts = k.own_nexts;
-  rooted = k.rooted;
   even_nexts = even_nexts-kept m k.odd_words (stamps_hold m k.stamp k.stamps (reads_stamped m k)) k.own_nexts;
   stores = k.stores;
 }
@@ -282,8 +274,6 @@ module _ (M : Meaning) where
           odd_words = move (λ shape words. OddStand shape words n.installs) odd_words;
           statuses = reshape (λ shape. StatusesCame shape n.words n.passes) statuses;
           brackets = move (λ shape words. TrailsBracket shape words n.passes) (brackets-kept m k.stamp k.stamps k.installs n v k.formats.field k.hands k.odd_words k.brackets);
-          between = reshape (λ shape. EachTriple (NotesBetween shape n.installs) n.passes) (between-kept m n v k.formats.field k.installs k.odd_words installs odd_words k.brackets
-              (old_brackets m k.stamp k.stamps k.installs n v k.formats.field k.hands k.odd_words) k.between);
           undecided = move (λ shape words. UndecidedStand shape words n.installs) (undecided-kept m noted k.brackets k.stamp k.stamps k.installs n v k.formats.field k.hands k.undecided);
           flags = reshape (λ shape. Noting shape n.passes) (flags-kept m n v k.flags);
           node_words = λ pass p at. reshape (λ shape. DataStands shape n.words p) (node_words-kept m n v (fated (shape_of m) m.words m.history m.fates k.entries) k.placed k.flags k.node_words pass p at);
@@ -315,6 +305,7 @@ module _ (M : Meaning) where
           alone = λ pass p at. reshape (λ shape. HoldsAll shape p → LastStand n p.trail) (alone-kept m n v k.formats.field v.live k.lanes k.alone pass p at);
           rooted = rooted-kept m n v (fated (shape_of m) m.words m.history m.fates k.entries) entries.stay sound.sound k.rooted;
           own_nexts = λ i c pass p at. reshape (λ shape. ShowsOwnNext shape n p i) (own_nexts-kept m n v k.lanes entries.stay k.own_nexts i c pass p at);
+          raised_once = reshape (λ shape. RaisedOnce shape n.passes) (raised_once-kept m n v k.stamp k.stamps k.raised_once);
           stamp = stamp_more k.stamp v.word v.new;
           stamps = subst (λ o. StampsKept (record n { opening = o }) (stamp_more k.stamp v.word v.new)) (sym v.opening)
               (subst (λ words. StampsKept (record n { words = words; opening = m.opening }) (stamp_more k.stamp v.word v.new)) (sym v.words) stamps);

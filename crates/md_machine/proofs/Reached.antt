@@ -16,6 +16,7 @@ use Rattle.md_machine.specs.declared.attempt.Hand.{Hand}
 use Rattle.md_machine.specs.declared.node.PlacedNode.{PlacedNode}
 use Rattle.md_machine.proofs.Invariant.{Invariant, kept_by, plays_keep, runs_keep}
 use Rattle.md_machine.proofs.clauses.nodes.FreeNodes.{base_alone}
+use Rattle.md_machine.proofs.clauses.words.OldSlots.{OldSlotStands}
 use Rattle.md_machine.proofs.clauses.passes.LanesApart.{At, lanes_first}
 use Rattle.md_machine.proofs.clauses.entries.Numbered.{none_numbered}
 use Rattle.md_machine.proofs.clauses.entries.ReadyEntries.{prep_not_ready}
@@ -24,19 +25,17 @@ use Rattle.md_machine.proofs.lists.At.{at_one}
 use Rattle.md_machine.proofs.lists.Options.{none_some}
 use Rattle.md_machine.proofs.lists.Pairs.{InPairs}
 use Rattle.md_machine.proofs.lists.Rising.{here, in_cons, in_none}
-use Rattle.md_machine.proofs.lists.Triples.{InTriples}
 use Rattle.md_machine.specs.Event.{CanOpen, Event, Runs, first_pass, opened}
 use Rattle.md_machine.specs.Machine.{Machine, was_begun}
 use Rattle.md_machine.specs.Meaning.{Meaning}
 use Rattle.md_machine.specs.Theorem.{AlwaysGoesOn, AlwaysKept}
 use Rattle.md_machine.specs.Trail.{segments}
 use Rattle.md_machine.specs.clauses.passes.Alone.{LastStand}
-use Rattle.md_machine.specs.clauses.words.Brackets.{NotesBetween, NotesStanding}
+use Rattle.md_machine.specs.clauses.words.Brackets.{NotesStanding}
 use Rattle.md_machine.specs.clauses.words.Formats.{AreFormats, StatusFits}
 use Rattle.md_machine.specs.clauses.passes.Fronts.{FrontFits}
 use Rattle.md_machine.specs.clauses.passes.Mine.{MineIsEnded}
 use Rattle.md_machine.specs.clauses.words.Loads.{LoadStands}
-use Rattle.md_machine.specs.clauses.words.OldSlots.{OldSlotStands}
 use Rattle.md_machine.specs.clauses.nodes.OwnWords.{NodesKeep}
 use Rattle.md_machine.specs.clauses.words.Reads.{ReadFound}
 
@@ -113,7 +112,6 @@ module _ (M : Meaning) where
     odd_words = λ word counted odd. absurd (true≢false (sym (can.even word counted) ∙ odd));
     statuses = λ pass p at segment c s i. absurd (no_steps o.shape s (pass, p, at, (segment, c, i)));
     brackets = λ pass p at segment c. subst (InPairs (NotesStanding o.shape o.words)) (first_segment o.shape p segment (at_one (first_pass o.shape) p pass at).1 c) tt;
-    between = λ pass p at segment c. subst (InTriples (NotesBetween o.shape [])) (first_segment o.shape p segment (at_one (first_pass o.shape) p pass at).1 c) tt;
     undecided = λ i c. absurd (in_none i c);
     flags = λ pass p at segment c s i. absurd (no_steps o.shape s (pass, p, at, (segment, c, i)));
     node_words = λ pass p at segment c s i. absurd (no_steps o.shape s (pass, p, at, (segment, c, i)));
@@ -147,6 +145,8 @@ module _ (M : Meaning) where
     alone = λ pass p at all. subst (λ (q : PassView). LastStand (opened o) q.trail) (at_one (first_pass o.shape) p pass at).1 tt;
     own_nexts = λ i c. absurd (in_none i c);
     rooted = λ choice r. tt;
+    raised_once = λ word count counted i j p q at there a b.
+        absurd (no_steps o.shape a.step (i, p, at, (a.earlier ++ a.step ∷ a.later, a.segment, Contains-append_right a.earlier (a.step ∷ a.later) a.step (here a.step a.later))));
     stamp = λ word count. get_or o.words word 0;
     stamps = record {
       now = λ word counted. record { bound = le_refl _; is = refl };

@@ -3,5 +3,4 @@ pub mod Rising
 pub mod Options
 pub mod Pairs
 pub mod Differ
-pub mod Triples
 pub mod Splits

@@ -1,3 +1,4 @@
+pub mod Replays
 pub mod Under
 pub mod Heaps
 pub mod Nodes

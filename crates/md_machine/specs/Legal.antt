@@ -1,10 +1,9 @@
--- What the machine means in the words of histories: the front of a pass, and when its history is legal.
-use Rattle.std.specs.Prelude.{◌≡◌, ℕ, Bool, List, [], map}
+-- What the machine means in the words of histories: the opening's state, and the front of a pass.
+use Rattle.std.specs.Prelude.{◌≡◌, ℕ, Bool, List, [], length, map}
 use Rattle.std.specs.List.{range_with_len}
 use Rattle.md_words.specs.declared.shape.Shape.{Shape}
 use Rattle.md_words.specs.Lanes.{lane_of_desc}
-use Rattle.md_history.specs.State.{State, run}
-use Rattle.md_history.specs.History.{IsLegal, kept_acts}
+use Rattle.md_history.specs.State.{State}
 use Rattle.md_history.specs.Engine.{IsFrontFrom}
 use Rattle.md_history.specs.Front.{Front, Begun, of_lane}
 use Rattle.md_machine.specs.declared.attempt.AttemptId.{AttemptId}
@@ -36,33 +35,16 @@ module _ (M : Meaning) where
   abbrev pub opening_state : Opening → State
   opening_state o = M.state (logical_heap (opened o) []).words
 
-  -- the history is legal, whatever becomes of the undecided
-  abbrev pub HistoryIsLegal : Machine → Type 0
-  HistoryIsLegal m = IsLegal (opening_state m.opening) (entries_of m.history) m.fates
-
-  -- a resolution's logical heap is valid, and its state is the replay of the entries that it keeps
-  pub record IsReplay (m : Machine) (choice : List Bool) : Type 0 where
-    pub valid : M.valid (logical_heap m choice)
-    pub state : M.state (logical_heap m choice).words ≡ run (opening_state m.opening) (kept_acts (entries_of m.history) choice)
-
-  abbrev pub EveryHeapIsReplay : Machine → Type 0
-  EveryHeapIsReplay m = (choice : List Bool) → Resolves m choice → IsReplay m choice
-
-  -- what each pass has seen is legal, whatever becomes of the entries that it doesn't know to be decided
-  abbrev pub FrontsLegal : Machine → Type 0
-  FrontsLegal m = (pass : ℕ) (p : PassView) → IsAt m pass p → IsLegal (opening_state m.opening) (entries_of p.seen) p.known
-
   -- the front of each live pass is one of an engine with all lanes that starts in the opening's state
   abbrev pub FrontsAreFrom : Machine → Type 0
   FrontsAreFrom m = (pass : ℕ) (p : PassView) → IsAt m pass p → IsLive p
       → IsFrontFrom (opening_state m.opening) (range_with_len 0 (shape_of m).lanes) (front_of (shape_of m) p)
 
-  -- of a machine: in every resolution the logical heap is a replay, and the history is legal, as each pass has seen it
-  -- too; and what steps met was in valid heaps whose facts hold for good
+  -- of a machine: each resolution's logical heap is valid, each entry has a fate, and the front of each live pass is
+  -- legal; and what steps met was in valid heaps whose facts hold for good
   pub record IsMeant (m : Machine) : Type 0 where
-    pub every : EveryHeapIsReplay m
-    pub legal : HistoryIsLegal m
-    pub fronts_legal : FrontsLegal m
+    pub valid : (choice : List Bool) → Resolves m choice → M.valid (logical_heap m choice)
+    pub fated : length m.fates ≡ length m.history
     pub fronts : FrontsAreFrom m
     pub least_facts : LeastFactsHold m
     pub was_in : MetWereIn M m

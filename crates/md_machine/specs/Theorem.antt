@@ -9,7 +9,6 @@ use Rattle.md_machine.specs.clauses.passes.Alone.{HoldersAreAlone}
 use Rattle.md_machine.specs.clauses.passes.BegunNoLater.{BegunAreNoLater}
 use Rattle.md_machine.specs.clauses.words.Brackets.{StatusesBracketed}
 use Rattle.md_machine.specs.clauses.slots.Clean.{CleanAreOut}
-use Rattle.md_machine.specs.clauses.slots.EntrySlots.{EntriesKeepSlots}
 use Rattle.md_machine.specs.clauses.entries.Fates.{FatesByStatuses}
 use Rattle.md_machine.specs.clauses.nodes.Flags.{FlaggedAreNoted}
 use Rattle.md_machine.specs.clauses.words.Formats.{AreFormats}
@@ -17,7 +16,6 @@ use Rattle.md_machine.specs.clauses.nodes.FreeNodes.{FreeAreUnplaced}
 use Rattle.md_machine.specs.clauses.passes.Fronts.{FrontsFit}
 use Rattle.md_machine.specs.clauses.passes.Hands.{HandsFit}
 use Rattle.md_machine.specs.clauses.passes.HandKnows.{HandsKnow}
-use Rattle.md_machine.specs.clauses.passes.InHand.{HandsLast}
 use Rattle.md_machine.specs.clauses.passes.Lanes.{LanesApart}
 use Rattle.md_machine.specs.clauses.words.Loads.{LoadsStand}
 use Rattle.md_machine.specs.clauses.words.MetSpots.{MetSpotsExist}
@@ -25,7 +23,6 @@ use Rattle.md_machine.specs.clauses.passes.Mine.{MineAreEnded}
 use Rattle.md_machine.specs.clauses.words.NodeWords.{NodeWordsStand}
 use Rattle.md_machine.specs.clauses.entries.Numbered.{EntriesNumbered}
 use Rattle.md_machine.specs.clauses.slots.OddWords.{OddStand}
-use Rattle.md_machine.specs.clauses.words.OldSlots.{OldSlotsStand}
 use Rattle.md_machine.specs.clauses.passes.OwnBegun.{OwnBegunShown}
 use Rattle.md_machine.specs.clauses.slots.OwnInstalls.{OwnInstallsShown}
 use Rattle.md_machine.specs.clauses.nodes.OwnNodes.{OwnNodesSeen}
@@ -37,9 +34,9 @@ use Rattle.md_machine.specs.clauses.passes.PendingBegun.{PendingAreBegun}
 use Rattle.md_machine.specs.clauses.nodes.Noted.{NotedArePlaced}
 use Rattle.md_machine.specs.clauses.nodes.Placed.{PlacedStay}
 use Rattle.md_machine.specs.clauses.entries.PresentEntries.{EntriesByStatus}
+use Rattle.md_machine.specs.clauses.words.RaisedOnce.{RaisedOnce}
 use Rattle.md_machine.specs.clauses.words.Reads.{ReadsShow}
 use Rattle.md_machine.specs.clauses.entries.Serials.{EntriesInTurn}
-use Rattle.md_machine.specs.clauses.entries.Rooted.{EntriesRooted}
 use Rattle.md_machine.specs.clauses.slots.Slots.{SlotsStand}
 use Rattle.md_machine.specs.clauses.entries.Sound.{CommittedAreSound}
 use Rattle.md_machine.specs.clauses.words.Stamps.{StampsHold}
@@ -60,8 +57,8 @@ pub record IsKept (m : Machine) : Type 0 where
   pub undecided : UndecidedStand (shape_of m) m.words m.installs
   pub statuses : StatusesCame (shape_of m) m.words m.passes
   pub brackets : StatusesBracketed m
+  pub raised_once : RaisedOnce (shape_of m) m.passes
   pub met_spots : MetSpotsExist (shape_of m) m.passes
-  pub old_slots : OldSlotsStand m
   pub uninstalls : UninstallsKeepValues m
   pub clean : CleanAreOut m
   pub present_entries : EntriesByStatus m
@@ -82,8 +79,6 @@ pub record IsKept (m : Machine) : Type 0 where
   pub own_nodes : OwnNodesSeen (shape_of m) m.history m.passes
   pub free_nodes : FreeAreUnplaced m
   pub own_words : OwnWordsStand m
-  pub entry_slots : EntriesKeepSlots m
-  pub in_hand : HandsLast m
   pub stores : StoresAgree m
   pub loads : LoadsStand m
   pub reads : ReadsShow m
@@ -93,7 +88,6 @@ pub record IsKept (m : Machine) : Type 0 where
   pub hand_knows : HandsKnow (shape_of m) m.passes
   pub mine : MineAreEnded m.passes
   pub alone : HoldersAreAlone m
-  pub rooted : EntriesRooted m
   pub own_nexts : OwnNextsShown m
   pub even_nexts : OwnNextsEven m
 

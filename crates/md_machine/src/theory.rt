@@ -19,11 +19,12 @@ pub fn all_schedules<T: Theory>()
     ensures kept { AlwaysKept T.meaning }
     ensures goes_on { AlwaysGoesOn T.meaning }
     ensures legal { AlwaysMeant T.meaning }
+    ensures serial { SchedulesAreSerial T.meaning }
 {}
 
-/// The same in a reader's words. For every theory, opening, list of events and end of the
-/// undecided: what the words stand for, and every reply, is what one thread would have that ran the
-/// kept transactions one after another.
+/// Its last clause alone, in a reader's words. For every theory, opening, list of events and end of
+/// the undecided: what the words stand for, and every reply, is what one thread would have that ran
+/// the kept transactions one after another.
 pub fn schedules_are_serial<T: Theory>()
     ensures { SchedulesAreSerial T.meaning }
 {}

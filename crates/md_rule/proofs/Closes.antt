@@ -1,7 +1,6 @@
 -- What a field leaves when it is closed.
 use Rattle.std.proofs.Common.{◌≡◌, ◌≢◌, ℕ, Option, Vec, Bool, List, [], ◌∷◌, ◌++◌, length, refl, sym, ap, ◌∙◌, subst, arith}
 use Rattle.std.proofs.lemmas.Bool.{cond-true}
-use Rattle.std.proofs.lemmas.List.{length-map}
 use Rattle.std.proofs.lemmas.List.Elements.{All-head, All-tail}
 use Rattle.std.specs.declared.alloc.Global.{Global}
 use lib.ListN.{get_elem?}
@@ -16,7 +15,7 @@ use Rattle.md_history.specs.declared.entries.Fate.{Fate}
 use Rattle.md_history.specs.declared.entries.Fate.TheVariants.{Committed, Aborted, Undecided}
 use Rattle.md_history.specs.Front.{AllStay}
 use Rattle.md_history.specs.History.{AllDecided, acts_of, committed, kept_acts, replay}
-use Rattle.md_history.specs.State.{State, run}
+use Rattle.md_history.specs.State.{IsRight, State, run}
 use Rattle.md_machine.specs.declared.attempt.HistoryEntry.{HistoryEntry}
 use Rattle.md_machine.specs.declared.pass.PassView.{PassView}
 use Rattle.md_machine.specs.Event.{opened}
@@ -26,7 +25,7 @@ use Rattle.md_machine.specs.Machine.{IsLive, Machine, content, shape_of}
 use Rattle.md_machine.specs.Meaning.{Lawful, Meaning}
 use Rattle.md_machine.specs.Resolution.{entries_of, least, logical_heap, logical_value, placed_under, value_by_spot}
 use Rattle.md_machine.proofs.resolutions.Placing.{least_resolves}
-use Rattle.md_rule.proofs.Moves.{is_kept, is_meant}
+use Rattle.md_rule.proofs.Moves.{is_kept, is_meant, is_serial}
 use Rattle.md_rule.specs.Closing.{AreEven, IsLast, LeavesReplay, MayClose, plain_words}
 use Rattle.md_rule.specs.Private.{HasPrivateWords, words_left}
 use Rattle.md_rule.specs.Rule.{Shows}
@@ -81,10 +80,10 @@ module _ (M : Meaning) (o : Origin) where
       let meant = is_meant M o L m a in
       let alone = k.alone l.pass view l.acts.at (subst (λ (s : Shape). HoldsAll s view) (sym a.shape) may.all) in
       let front = k.fronts l.pass view l.acts.at in
-      let fated : length m.fates ≡ length m.history = meant.legal.fated ∙ length-map m.history (λ (e : HistoryEntry). e.entry) in
-      let known : m.fates ≡ view.known = stay_same view.known m.fates may.decided front.known (fated ∙ ap length (sym alone.seen) ∙ sym front.fated) in
+      let known : m.fates ≡ view.known = stay_same view.known m.fates may.decided front.known (meant.fated ∙ ap length (sym alone.seen) ∙ sym front.fated) in
       let choice = least m.fates in
-      let h = meant.every choice (least_resolves m.history m.fates fated) in
+      let resolves = least_resolves m.history m.fates meant.fated in
+      let serial = is_serial M o L m a choice resolves in
       let even : AreEven (shape_of m) m.words = subst (λ (s : Shape). AreEven s m.words) (sym a.shape) (may.even m a l.pass l.acts) in
       let heap : LogicalHeap = record { words = plain_words (shape_of m) m.words; placed = placed_under m choice } in
       let agree : AgreeWherePlaced (logical_heap m choice) heap = record {
@@ -94,9 +93,14 @@ module _ (M : Meaning) (o : Origin) where
         key_of = λ node placed. refl;
         value_of_node = λ node placed. refl;
       } in
-      let f = L.frame (logical_heap m choice) heap h.valid agree in
+      let f = L.frame (logical_heap m choice) heap (meant.valid choice resolves) agree in
       let start : State = M.state (plain_words (shape_of m) m.opening.words) in
-      let state : M.state (plain_words (shape_of m) m.words) ≡ replay start (entries_of m.history) m.fates = f.1 ∙ h.state ∙ ap (run start) (least_committed (entries_of m.history) m.fates) in
+      let state : M.state (plain_words (shape_of m) m.words) ≡ replay start (entries_of m.history) m.fates = f.1 ∙ serial.state ∙ ap (run start) (least_committed (entries_of m.history) m.fates) in
+      let right : IsRight start (acts_of (committed (entries_of m.history) m.fates)) =
+      subst (IsRight start) (least_committed (entries_of m.history) m.fates) serial.replies in
+      let seen : IsRight start (acts_of (committed (entries_of view.seen) view.known)) =
+      subst (λ fs. IsRight start (acts_of (committed (entries_of view.seen) fs))) known
+      (subst (λ es. IsRight start (acts_of (committed (entries_of es) m.fates))) (sym alone.seen) right) in
       record {
         field = subst (λ (s : Shape). IsField s ws) a.shape (subst (IsField (shape_of m)) l.words k.formats.field);
         even = subst (λ (s : Shape). AreEven s ws) a.shape (subst (AreEven (shape_of m)) l.words even);
@@ -110,4 +114,6 @@ module _ (M : Meaning) (o : Origin) where
             ∙ ap (replay start (entries_of view.seen)) known
             ∙ ap (λ (s : Shape). replay (M.state (plain_words s m.opening.words)) (entries_of view.seen) view.known) a.shape
             ∙ ap (λ (x : List ℕ). replay (M.state (plain_words o.shape x)) (entries_of view.seen) view.known) a.words;
+        replies = subst (λ (x : List ℕ). IsRight (M.state (plain_words o.shape x)) (acts_of (committed (entries_of view.seen) view.known))) a.words
+            (subst (λ (s : Shape). IsRight (M.state (plain_words s m.opening.words)) (acts_of (committed (entries_of view.seen) view.known))) a.shape seen);
       }

@@ -1,5 +1,5 @@
 -- A step of the table is one more event of the machine, and so keeps the rule.
-use Rattle.std.proofs.Common.{◌≡◌, ◌≢◌, ◌==◌, ℕ, Vec, length, zero, suc, List, [], ◌∷◌, ◌++◌, Some, None, map, slice_set, slice_index, refl, sym, ap, ◌∙◌, subst, inl, ⊎_elim, arith}
+use Rattle.std.proofs.Common.{◌≡◌, ◌≢◌, ◌==◌, ℕ, Bool, Vec, length, zero, suc, List, [], ◌∷◌, ◌++◌, Some, None, map, slice_set, slice_index, refl, sym, ap, ◌∙◌, subst, inl, ⊎_elim, arith}
 use Rattle.atomic_table.proofs.Lists.{at_map}
 use Rattle.md_machine.proofs.lists.Options.{none_some, some_same}
 use Rattle.md_rule.specs.declared.known.Known.{Known}
@@ -15,9 +15,11 @@ use Rattle.md_machine.specs.Machine.{IsAt, IsLive, Machine, content, shape_of}
 use Rattle.md_machine.specs.GoesOn.{MachineGoesOn}
 use Rattle.md_machine.specs.Legal.{IsMeant}
 use Rattle.md_machine.specs.Meaning.{Lawful, Meaning}
+use Rattle.md_machine.specs.Resolution.{Resolves}
+use Rattle.md_machine.specs.Serial.{IsSerial}
 use Rattle.md_machine.specs.Theorem.{IsKept}
 use Rattle.md_machine.proofs.Reached.{always_goes_on, always_kept}
-use Rattle.md_machine.proofs.replay.Always.{always_meant}
+use Rattle.md_machine.proofs.replay.Always.{always_meant, always_serial}
 use Rattle.md_machine.specs.events.SplitJoin.{MaySplit, after_join, after_split, given_part, joined_part, kept_part, spent}
 use Rattle.md_machine.proofs.lists.At.{append_end, append_there, at_append, at_one, at_set, set_else, set_there}
 use Rattle.std.proofs.lemmas.Bool.{cond-true, eq-eqb}
@@ -74,6 +76,9 @@ module _ (M : Meaning) where
 
     pub is_meant : Lawful M → (m : Machine) → Admitted M o m → IsMeant M m
     is_meant L m a = always_meant M L m.opening a.events m a.opens a.runs
+
+    pub is_serial : Lawful M → (m : Machine) → Admitted M o m → (choice : List Bool) → Resolves m choice → IsSerial M m.opening m choice
+    is_serial L m a choice resolves = always_serial M L m.opening a.events m choice a.opens a.runs resolves
 
     pub goes_on : (m n : Machine) (e : Event) → Admitted M o m → Does M m e n → MachineGoesOn m n
     goes_on m n e a does = always_goes_on M m.opening a.events m n e a.opens a.runs (inl does)

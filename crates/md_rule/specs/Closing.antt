@@ -4,7 +4,8 @@ use Rattle.md_words.specs.declared.shape.Shape.{Shape}
 use Rattle.md_words.specs.Content.{count_of, is_even}
 use Rattle.md_words.specs.LayoutLaws.{IsField}
 use Rattle.md_words.specs.PlaceAt.{IsCounted}
-use Rattle.md_history.specs.History.{AllDecided, replay}
+use Rattle.md_history.specs.History.{AllDecided, acts_of, committed, replay}
+use Rattle.md_history.specs.State.{IsRight}
 use Rattle.md_machine.specs.declared.node.Structure.{Structure}
 use Rattle.md_machine.specs.declared.pass.PassView.{PassView}
 use Rattle.md_machine.specs.Event.{Acts, opened}
@@ -40,10 +41,12 @@ module _ (M : Meaning) (o : Origin) where
     pub acts : Acts machine pass view
     pub words : machine.words ≡ last
 
-  -- the words are a valid heap in which no descriptor stands, and their state is the replay of the committed entries
+  -- the words are a valid heap in which no descriptor stands, their state is the replay of the committed entries, and
+  -- each reply of those is the one that one thread gets
   pub record LeavesReplay (view : PassView) (words : List ℕ) : Type 0 where
     pub field : IsField o.shape words
     pub even : AreEven o.shape words
     pub placed : ℕ → Option Structure
     pub valid : M.valid (record { words = plain_words o.shape words; placed = placed })
     pub state : M.state (plain_words o.shape words) ≡ replay (M.state (plain_words o.shape o.words)) (entries_of view.seen) view.known
+    pub replies : IsRight (M.state (plain_words o.shape o.words)) (acts_of (committed (entries_of view.seen) view.known))

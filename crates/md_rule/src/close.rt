@@ -1,6 +1,6 @@
 //! The end of a field.
 
-ghost use Rattle.std.specs.Prelude.{◌≡◌, ◌<◌, IfOk, length, slice_index};
+ghost use Rattle.std.specs.Prelude.{◌≡◌, ◌≢◌, ◌<◌, [], IfOk, length, slice_index};
 ghost use Rattle.md_rule.specs.Closing.{IsLast, LeavesReplay, MayClose};
 ghost use Rattle.md_rule.specs.Views.{IsOf};
 
@@ -22,8 +22,9 @@ pub struct Ended<T: Theory> {
 }
 
 impl<T: Theory> Model for Ended<T> {
-    ghost use Rattle.std.specs.Prelude.{◌≡◌};
+    ghost use Rattle.std.specs.Prelude.{◌≡◌, ◌≢◌, IfNone, IfSome, length};
     ghost use Rattle.std.specs.Mem.Slots.{slots_items, slots_len, IsFull};
+    ghost use Rattle.md_words.specs.Layout.{words_of};
     ghost use Rattle.md_rule.specs.Private.{words_left};
     ghost use Rattle.md_rule.specs.Views.{EndedView};
 
@@ -34,7 +35,11 @@ impl<T: Theory> Model for Ended<T> {
       front = e.front;
     } };
 
-    ghost invariant = { λ e. IsFull e.table.words × (slots_len e.table.slots ≡ 0) };
+    // The words are private exactly if there is one lane.
+    ghost invariant = { λ e. IsFull e.table.words × (slots_len e.table.slots ≡ 0)
+        × IfSome e.private (λ ws. (e.front.shape.lanes ≡ 1)
+        × (length ws.items ≡ words_of e.front.shape))
+        × IfNone e.private (e.front.shape.lanes ≢ 1) };
 }
 
 /// What a field leaves when it is closed.
@@ -125,9 +130,12 @@ impl<T: Theory> Ended<T> {
         Ok(words)
     }
 
-    /// A list whose memory can be used again, with any content: the words of a field with one lane.
-    /// The memory of other words is freed, and the list is empty.
-    pub fn into_memory(self, alloc: Global) -> Vec<u64> {
+    /// A list whose memory can be used again: the words of a field with one lane, as they stand.
+    /// The memory of other words is freed, and the list is empty. Constant time.
+    pub fn into_memory(self, alloc: Global) -> Vec<u64>
+        ensures one { self.front.shape.lanes ≡ 1 → result.items ≡ self.words }
+        ensures several { self.front.shape.lanes ≢ 1 → result.items ≡ [] }
+    {
         let Ended {
             table,
             private,

@@ -18,11 +18,10 @@ use Rattle.md_machine.specs.Resolution.{Resolves, entries_of, least, logical_hea
 use Rattle.md_machine.specs.clauses.passes.Alone.{HoldsAll}
 use Rattle.md_machine.proofs.chain.Agree.{SameValues, same_wholes}
 use Rattle.md_machine.proofs.chain.Follow.{FollowsActs, wholes_follow}
-use Rattle.md_machine.proofs.replay.Settled.{meant_fated}
 use Rattle.md_machine.proofs.resolutions.Placing.{least_resolves}
 use Rattle.md_rule.specs.Closing.{plain_words}
 use Rattle.md_rule.specs.Views.{FieldView, PassState}
-use Rattle.md_rule.proofs.Moves.{is_meant}
+use Rattle.md_rule.proofs.Moves.{is_meant, is_serial}
 use Rattle.md_nbtc_law.specs.Course.{StandsNext}
 use Rattle.md_nbtc_law.specs.Ending.{BeginsTransaction}
 use Rattle.md_nbtc_law.specs.Going.{IsGoing}
@@ -64,7 +63,7 @@ module _ (f : FieldView) (p : PassState) (of : IsPassOf f p) (fresh : IsFresh p)
   fresh_heap = logical_heap m choice
 
   resolves : Resolves m choice
-  resolves = least_resolves m.history m.fates (meant_fated store m (is_meant store t.field.origin store_lawful m going.stands.admitted))
+  resolves = least_resolves m.history m.fates (is_meant store t.field.origin store_lawful m going.stands.admitted).fated
 
   pub is_heap : IsHeapOf store t fresh_heap
   is_heap = record {
@@ -85,16 +84,16 @@ module _ (f : FieldView) (p : PassState) (of : IsPassOf f p) (fresh : IsFresh p)
   heap_shape = going.stands.admitted.shape
 
   pub heap_valid : store.valid fresh_heap
-  heap_valid = ((is_meant store t.field.origin store_lawful m going.stands.admitted).every choice resolves).valid
+  heap_valid = (is_meant store t.field.origin store_lawful m going.stands.admitted).valid choice resolves
 
   history_none : m.history ≡ []
   history_none = sym (alone store t going.prepared m going.stands.admitted going.stands.pass going.stands.acts holds).seen ∙ seen_none
 
   pub heap_state : state_of_store fresh_heap.words ≡ start_of f
   heap_state =
-      let replay = (is_meant store t.field.origin store_lawful m going.stands.admitted).every choice resolves in
+      let serial = is_serial store t.field.origin store_lawful m going.stands.admitted choice resolves in
       let opening = state_of_store (plain_words m.opening.shape m.opening.words) in
-      replay.state
+      serial.state
       ∙ ap (λ (es : List HistoryEntry). run opening (kept_acts (entries_of es) choice)) history_none
       ∙ ap (λ (s : Shape). state_of_store (plain_words s m.opening.words)) going.stands.admitted.shape
       ∙ ap (λ (ws : List ℕ). state_of_store (plain_words t.field.origin.shape ws)) going.stands.admitted.words

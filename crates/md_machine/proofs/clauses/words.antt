@@ -2,6 +2,7 @@ pub mod Statuses
 pub mod Brackets
 pub mod Stores
 pub mod Stamps
+pub mod RaisedOnce
 pub mod NodeWords
 pub mod Loads
 pub mod Reads

@@ -40,7 +40,7 @@ use Rattle.md_machine.specs.Trail.{LastStored, Loads, Meets}
 use Rattle.md_machine.specs.clauses.entries.Fates.{Tells}
 use Rattle.md_machine.specs.clauses.words.Loads.{LoadStands, MeetsReady}
 use Rattle.md_machine.specs.clauses.slots.OddWords.{OddStand, StandsIn}
-use Rattle.md_machine.specs.clauses.words.OldSlots.{OldSlotStands, old_place, spot_in_word}
+use Rattle.md_machine.proofs.clauses.words.OldSlots.{OldSlotStands, old_place, spot_in_word}
 use Rattle.md_machine.specs.clauses.words.Stores.{IsEntryWord}
 use Rattle.md_machine.specs.events.Uninstall.{HelperSaw, MayUninstall, slot_by_fate, slot_of_desc, status_of_desc, value_by_fate}
 

@@ -1,18 +1,21 @@
 -- All schedules are legal: after every list of events from an opening with a valid heap.
-use Rattle.std.proofs.Common.{◌≡◌, ◌≤◌, Bool, List, [], ◌∷◌, length, refl, sym, subst, ⊎_elim, arith}
+use Rattle.std.proofs.Common.{◌≡◌, ◌≤◌, Bool, List, [], ◌∷◌, length, refl, sym, ap, ◌∙◌, subst, ⊎_elim, arith}
 use Rattle.std.proofs.lemmas.List.Elements.{All-weaker}
 use Rattle.md_words.specs.Layout.{IsNode, node_count}
 use Rattle.md_words.proofs.Owners.{base_nodes_exist}
-use Rattle.md_history.specs.History.{IsLegal}
+use Rattle.md_history.specs.State.{IsRight, run}
+use Rattle.md_history.specs.History.{IsLegal, kept_acts}
 use Rattle.md_machine.specs.declared.node.PlacedNode.{PlacedNode}
 use Rattle.md_machine.specs.declared.opening.Opening.{Opening}
 use Rattle.md_machine.specs.Meaning.{Lawful, Meaning}
 use Rattle.md_machine.specs.Machine.{Machine, shape_of}
 use Rattle.md_machine.specs.declared.pass.PassView.{PassView}
 use Rattle.md_machine.specs.Event.{CanOpen, Does, Event, Plays, Runs, first_pass, opened}
-use Rattle.md_machine.specs.Legal.{AlwaysMeant, FrontsLegal, IsReplay, opening_state}
+use Rattle.md_machine.specs.Legal.{AlwaysMeant, opening_state}
+use Rattle.md_machine.proofs.replay.Replays.{FrontsLegal, IsReplay}
 use Rattle.md_machine.specs.Resolution.{Resolves, entries_of}
-use Rattle.md_machine.proofs.Invariant.{Invariant, does_keep, kept_by}
+use Rattle.md_machine.specs.Serial.{SchedulesAreSerial}
+use Rattle.md_machine.proofs.Invariant.{Invariant, does_keep, kept_by, plays_keep}
 use Rattle.md_machine.specs.clauses.words.WasIn.{MetWereIn}
 use Rattle.md_machine.proofs.Reached.{no_steps, opens}
 use Rattle.md_machine.proofs.clauses.passes.FrontsFit.{fated}
@@ -113,12 +116,28 @@ module _ (M : Meaning) (lawful : Lawful M) where
       let k = so_far.invariant in
       let kept = kept_by m k in
       record {
-        every = so_far.means.every;
-        legal = so_far.means.legal;
-        fronts_legal = so_far.fronts_legal;
+        valid = λ choice r. (so_far.means.every choice r).valid;
+        fated = fated;
         fronts = fronts_from M m kept so_far.fronts_legal;
         least_facts = least_facts-kept m fated so_far.facts_rise;
         was_in = so_far.was_in;
         settled = settled-kept M m so_far.means.exist fated so_far.was_in;
         undecided_slots = undecided_slots-kept M lawful m k.stamp k.stamps k.installs k.undecided kept.fates.told k.entry_slots k.rooted fated so_far.means.every;
+      }
+
+  -- the opening stays
+  runs_opening : (events : List Event) (m n : Machine) → Invariant m → Runs M m events n → n.opening ≡ m.opening
+  runs_opening [] m n k runs = ap (λ (x : Machine). x.opening) runs
+  runs_opening (e ∷ es) m n k runs =
+      let on = plays_keep M m runs.0 e k runs.1 in
+      runs_opening es runs.0 n on.0 runs.2 ∙ on.1.opening
+
+  -- every schedule is serial, since its heaps are replays and its history is legal
+  pub always_serial : SchedulesAreSerial M
+  always_serial o events m choice can runs r =
+      let means = (runs_mean events (opened o) m (so_far_opened o can) runs).means in
+      let same = runs_opening events (opened o) m (opens M o can) runs in
+      record {
+        state = (means.every choice r).state ∙ ap (λ (x : Opening). run (opening_state M x) (kept_acts (entries_of m.history) choice)) same;
+        replies = subst (λ (x : Opening). IsRight (opening_state M x) (kept_acts (entries_of m.history) choice)) same (means.legal.right choice r);
       }

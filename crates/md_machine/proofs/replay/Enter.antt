@@ -30,7 +30,8 @@ use Rattle.md_machine.specs.Machine.{Machine, shape_of, content, status_at, word
 use Rattle.md_machine.specs.Own.{IsOwnNode}
 use Rattle.md_machine.specs.Resolution.{Resolves, entries_of, logical_heap, placed_under, kept_structure, or_else, structure_in}
 use Rattle.md_machine.specs.Certified.{IsCertified, all_nodes, placed_by}
-use Rattle.md_machine.specs.Legal.{IsReplay, HistoryIsLegal, EveryHeapIsReplay, opening_state}
+use Rattle.md_machine.specs.Legal.{opening_state}
+use Rattle.md_machine.proofs.replay.Replays.{IsReplay, HistoryIsLegal, EveryHeapIsReplay}
 use Rattle.md_machine.specs.clauses.entries.Fates.{Tells}
 use Rattle.md_machine.specs.clauses.words.Formats.{AreFormats}
 use Rattle.md_machine.specs.PlacedNodes.{NodesExist}

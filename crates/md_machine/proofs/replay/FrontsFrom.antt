@@ -19,7 +19,8 @@ use Rattle.md_machine.specs.declared.pass.PassView.{PassView}
 use Rattle.md_machine.proofs.clauses.passes.Alone.{lane_exists}
 use Rattle.md_machine.proofs.clauses.passes.Ended.{cond_cons}
 use Rattle.md_machine.proofs.lists.Rising.{here, in_cons, range_in, there}
-use Rattle.md_machine.specs.Legal.{FrontsAreFrom, FrontsLegal, begun_of}
+use Rattle.md_machine.specs.Legal.{FrontsAreFrom, begun_of}
+use Rattle.md_machine.proofs.replay.Replays.{FrontsLegal}
 use Rattle.md_machine.specs.Machine.{IsAt, Machine, shape_of, was_begun}
 use Rattle.md_machine.specs.Meaning.{Meaning}
 use Rattle.md_machine.specs.Resolution.{entries_of}

@@ -17,7 +17,8 @@ use Rattle.md_machine.specs.Meaning.{Lawful, Meaning}
 use Rattle.md_machine.specs.GoesOn.{MachineGoesOn}
 use Rattle.md_machine.specs.Machine.{Machine, shape_of}
 use Rattle.md_machine.specs.Resolution.{Resolves, entries_of, logical_heap}
-use Rattle.md_machine.specs.Legal.{EveryHeapIsReplay, HistoryIsLegal, IsReplay, opening_state}
+use Rattle.md_machine.specs.Legal.{opening_state}
+use Rattle.md_machine.proofs.replay.Replays.{EveryHeapIsReplay, HistoryIsLegal, IsReplay}
 use Rattle.md_machine.specs.PlacedNodes.{NodesExist}
 use Rattle.md_machine.specs.events.Ready.{history_entry, ready_word}
 use Rattle.md_machine.proofs.Invariant.{Invariant, kept_by, rests_of}

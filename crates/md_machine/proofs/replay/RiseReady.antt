@@ -18,7 +18,7 @@ use Rattle.md_machine.specs.LogicalHeap.{LogicalHeap, next_of}
 use Rattle.md_machine.specs.Machine.{Machine, shape_of}
 use Rattle.md_machine.specs.Meaning.{KeepsFacts, Lawful, Meaning}
 use Rattle.md_machine.specs.Certified.{IsCertified, all_nodes, placed_by}
-use Rattle.md_machine.specs.Legal.{IsReplay}
+use Rattle.md_machine.proofs.replay.Replays.{IsReplay}
 use Rattle.md_machine.specs.Resolution.{Resolves, entries_of, logical_heap}
 use Rattle.md_machine.specs.clauses.words.Stamps.{StampsHold}
 use Rattle.md_machine.specs.events.Ready.{history_entry, reads_now, writes_now}

@@ -1,15 +1,12 @@
 -- What a content that a step met tells for good: settled values, and the nodes of the heap in which it was.
 use Rattle.std.proofs.Common.{◌≡◌, ℕ, true, length, refl, sym, ap, ◌∙◌, subst, Some, None, is_some, IsTrue}
-use Rattle.std.proofs.lemmas.List.{length-map}
 use Rattle.md_words.specs.Content.{value_of}
 use Rattle.md_words.specs.Layout.{address, IsNode}
 use Rattle.md_words.specs.Place.{node_next}
 use Rattle.md_words.specs.PlaceAt.{IsCounted}
-use Rattle.md_machine.specs.declared.attempt.HistoryEntry.{HistoryEntry}
 use Rattle.md_machine.specs.declared.certificate.Fact.{Fact}
 use Rattle.md_machine.specs.declared.node.Structure.{Structure}
 use Rattle.md_machine.specs.declared.pass.PassView.{PassView}
-use Rattle.md_machine.specs.Legal.{IsMeant}
 use Rattle.md_machine.specs.LogicalHeap.{Holds, IsPlaced, LogicalHeap, is_settled}
 use Rattle.md_machine.specs.Machine.{IsAt, Machine, shape_of}
 use Rattle.md_machine.specs.Meaning.{Lawful, Meaning, NamesPlaced}
@@ -82,10 +79,6 @@ module _ (M : Meaning) (m : Machine) (exist : NodesExist m) (fated : length m.fa
       let exists = placed_exists m choice exist node (structure, placed choice r) in
       let before = was_placed M m word (value_of held) w fated node structure exists refl placed in
       (next_stays M m word (value_of held) w node structure before refl is choice r).next.0
-
--- each entry has a fate
-pub meant_fated : (M : Meaning) (m : Machine) → IsMeant M m → length m.fates ≡ length m.history
-meant_fated M m meant = meant.legal.fated ∙ length-map m.history (λ (e : HistoryEntry). e.entry)
 
 -- so where a pass found a settled value of a node's next word, as a tidy change's condition has it, the fact holds in
 -- every resolution

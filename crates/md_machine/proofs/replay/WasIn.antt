@@ -11,7 +11,7 @@ use Rattle.md_machine.specs.declared.certificate.Fact.{Fact}
 use Rattle.md_machine.specs.declared.node.Structure.{Structure}
 use Rattle.md_machine.specs.declared.opening.Opening.{Opening}
 use Rattle.md_machine.specs.declared.step.Step.{Step}
-use Rattle.md_machine.specs.Legal.{EveryHeapIsReplay}
+use Rattle.md_machine.proofs.replay.Replays.{EveryHeapIsReplay}
 use Rattle.md_machine.specs.LogicalHeap.{IsNoUnplacedNext, LogicalHeap}
 use Rattle.md_machine.specs.Machine.{Machine, content, shape_of}
 use Rattle.md_machine.specs.Meaning.{KeepsFacts, Meaning}

@@ -3,4 +3,3 @@ pub mod Sound
 pub mod Numbered
 pub mod Serials
 pub mod PresentEntries
-pub mod Rooted

@@ -1,4 +1,3 @@
-pub mod InHand
 pub mod Lanes
 pub mod Fronts
 pub mod Hands

@@ -1,5 +1,4 @@
 pub mod WonInstalls
-pub mod EntrySlots
 pub mod OddWords
 pub mod Slots
 pub mod Undecided

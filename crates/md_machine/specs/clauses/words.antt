@@ -1,11 +1,11 @@
 pub mod Formats
 pub mod Stamps
+pub mod RaisedOnce
 pub mod Stores
 pub mod NodeWords
 pub mod Loads
 pub mod Reads
 pub mod Statuses
 pub mod Brackets
-pub mod OldSlots
 pub mod MetSpots
 pub mod WasIn

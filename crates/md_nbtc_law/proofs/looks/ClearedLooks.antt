@@ -205,11 +205,14 @@ module _ (M : Meaning) (lawful : Lawful M) (t : TxnState) (cs : List Certificate
         sym f.0.before ∙ left_finds (attempt_in t).desc word found t.began.view.trail own by.last chain
         (left_same (attempt_in t).desc word found (own_steps looked) by.earlier same_earlier found_left) f.0.there f.1
 
+    left_apart : c.left ≢ found
+    left_apart e = let rises = clears.rises in let same = ap count_of e in omega (arith, rises, same)
+
     -- so what is left moved, and a conflict has its cause
     pub conflicts : is_even (count_of c.left) ≡ false → HasCause cleared (Conflict (record { word = word; was = found; now = c.left }))
     conflicts left_odd = conflict_cause cleared (record { word = word; was = found; now = c.left })
-        (moved_to found found_left (λ e. clears.empty (sym e)) (inl (found_odd left_odd).0))
-        (λ all. clears.empty (alone_found left_odd all))
+        (moved_to found found_left (λ e. left_apart (sym e)) (inl (found_odd left_odd).0))
+        (λ all. left_apart (alone_found left_odd all))
 
     -- an even content is left: of one that was recorded of the word, it is that one still, or it moved
     recorded_now : is_even (count_of c.left) ≡ true → (r : Read) → Contains t.reads r → r.word ≡ word → (r.content ≡ c.left)

@@ -23,7 +23,6 @@ use Rattle.md_machine.specs.Own.{HasNode}
 use Rattle.md_machine.specs.events.Store.{and_node}
 use Rattle.md_machine.proofs.chain.SameNodes.{next_alone}
 use Rattle.md_machine.proofs.lists.Rising.{in_map}
-use Rattle.md_machine.proofs.replay.Settled.{meant_fated}
 use Rattle.md_machine.proofs.resolutions.Placing.{never_means}
 use Rattle.md_rule.proofs.Moves.{is_kept, is_meant}
 use Rattle.md_nbtc_law.specs.Going.{IsFoundFirst, IsGoing}
@@ -43,7 +42,7 @@ module _ (M : Meaning) (lawful : Lawful M) (t : TxnState) (cs : List Certificate
   not_there h of s is =
       let k = is_kept M t.field.origin of.machine of.admitted in
       let never = k.free_nodes of.pass t.pass.view of.acts.at node (subst (λ x. HasNode x t.pass.view node) (sym of.admitted.shape) free.own) free.unplaced in
-      let none = (never_means of.machine node (meant_fated M of.machine (is_meant M t.field.origin lawful of.machine of.admitted))).0 never of.choice of.resolves in
+      let none = (never_means of.machine node (is_meant M t.field.origin lawful of.machine of.admitted).fated).0 never of.choice of.resolves in
       false≢true (ap (λ o. is_none o) (sym (sym (ap (λ (x : LogicalHeap). x.placed node) of.is) ∙ is)) ∙ none)
 
   -- what was found first in a word shows that it isn't the node's next word

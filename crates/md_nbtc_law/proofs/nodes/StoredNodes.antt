@@ -20,7 +20,6 @@ use Rattle.md_machine.specs.Stepping.{attempt_in_hand}
 use Rattle.md_machine.specs.clauses.nodes.FreeNodes.{IsFreeBy}
 use Rattle.md_machine.specs.clauses.nodes.OwnWords.{IsPlain, LastLeft}
 use Rattle.md_machine.specs.events.Store.{and_node}
-use Rattle.md_machine.proofs.replay.Settled.{meant_fated}
 use Rattle.md_machine.proofs.resolutions.Placing.{always_not_never}
 use Rattle.md_rule.specs.Admitted.{Admitted}
 use Rattle.md_rule.specs.Steps.{Stepped}
@@ -97,7 +96,7 @@ module _ (M : Meaning) (lawful : Lawful M) (o : Origin) (node : ℕ) where
       let own = subst (λ x. HasNode x v node) (sym admitted.shape) s.has in
       let never = k.free_nodes pass v acts.at node own s.free in
       let not_always : always_placed m node ≡ false = ⊎_elim
-      (λ always. absurd (always_not_never m node (meant_fated M m (is_meant M o lawful m admitted)) always never)) (λ not. not) (cases_Bool (always_placed m node)) in
+      (λ always. absurd (always_not_never m node (is_meant M o lawful m admitted).fated always never)) (λ not. not) (cases_Bool (always_placed m node)) in
       let word = address (shape_of m) place in
       let same : address o.shape place ≡ word = ap (λ x. address x place) (sym admitted.shape) in
       let left = subst (LastLeft place word (content m word)) last.order (k.own_words pass v acts.at node own not_always place is) in

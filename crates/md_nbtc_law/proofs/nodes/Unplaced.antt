@@ -13,7 +13,6 @@ use Rattle.md_machine.specs.Own.{HasNode, IsDataOf}
 use Rattle.md_machine.specs.Resolution.{always_placed, never_placed, placed_under}
 use Rattle.md_machine.specs.Theorem.{IsKept}
 use Rattle.md_machine.specs.clauses.nodes.OwnWords.{IsPlain, LastLeft}
-use Rattle.md_machine.proofs.replay.Settled.{meant_fated}
 use Rattle.md_machine.proofs.resolutions.Placing.{always_not_never, never_means}
 use Rattle.md_rule.proofs.Moves.{is_kept, is_meant}
 use Rattle.md_nbtc_law.specs.Going.{IsUnplaced}
@@ -50,13 +49,13 @@ module _ (M : Meaning) (lawful : Lawful M) (t : TxnState) (n : OwnNode) (among :
 
     not_always : always_placed m n.node ≡ false
     not_always = ⊎_elim
-        (λ always. absurd (always_not_never m n.node (meant_fated M m (is_meant M v.field.origin lawful m of.admitted)) always never))
+        (λ always. absurd (always_not_never m n.node (is_meant M v.field.origin lawful m of.admitted).fated always never))
         (λ not. not)
         (cases_Bool (always_placed m n.node))
 
     pub placed_nowhere : h.placed n.node ≡ None
     placed_nowhere = ap (λ (x : LogicalHeap). x.placed n.node) of.is
-        ∙ none_of (placed_under m of.choice n.node) ((never_means m n.node (meant_fated M m (is_meant M v.field.origin lawful m of.admitted))).0 never of.choice of.resolves)
+        ∙ none_of (placed_under m of.choice n.node) ((never_means m n.node (is_meant M v.field.origin lawful m of.admitted).fated).0 never of.choice of.resolves)
 
     -- what was left last in its key or its value stands there
     stands : (place : Place) → IsDataOf n.node place → (held : ℕ) → LeftLast (address (shape_in v) place) held v.pass.view.trail

@@ -5,7 +5,6 @@ use Rattle.md_machine.specs.LogicalHeap.{LogicalHeap}
 use Rattle.md_machine.specs.Machine.{Machine}
 use Rattle.md_machine.specs.Meaning.{Lawful, Meaning}
 use Rattle.md_machine.specs.Resolution.{least, logical_heap}
-use Rattle.md_machine.proofs.replay.Settled.{meant_fated}
 use Rattle.md_machine.proofs.resolutions.Placing.{least_resolves}
 use Rattle.md_rule.specs.Admitted.{Admitted}
 use Rattle.md_rule.proofs.Moves.{is_meant}
@@ -41,7 +40,7 @@ goes_self M t = record { going = λ cs going. going; later = later_self t }
 module _ (M : Meaning) (lawful : Lawful M) where
   -- a heap is valid, and of the field's shape
   pub heap_valid : (t : TxnState) (h : LogicalHeap) → IsHeapOf M t h → M.valid h
-  heap_valid t h of = subst M.valid (sym of.is) ((is_meant M t.field.origin lawful of.machine of.admitted).every of.choice of.resolves).valid
+  heap_valid t h of = subst M.valid (sym of.is) ((is_meant M t.field.origin lawful of.machine of.admitted).valid of.choice of.resolves)
 
   pub heap_shape : (t : TxnState) (h : LogicalHeap) → IsHeapOf M t h → h.words.shape ≡ shape_in t
   heap_shape t h of = ap (λ (x : LogicalHeap). x.words.shape) of.is ∙ of.admitted.shape
@@ -54,7 +53,7 @@ module _ (M : Meaning) (lawful : Lawful M) where
     pass = pass;
     acts = acts;
     choice = least m.fates;
-    resolves = least_resolves m.history m.fates (meant_fated M m (is_meant M t.field.origin lawful m admitted));
+    resolves = least_resolves m.history m.fates (is_meant M t.field.origin lawful m admitted).fated;
     is = refl;
   }
 

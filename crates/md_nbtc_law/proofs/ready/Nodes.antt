@@ -30,7 +30,6 @@ use Rattle.md_machine.proofs.chain.SameNodes.{next_alone, next_counted}
 use Rattle.md_machine.proofs.chain.Values.{value_even}
 use Rattle.md_machine.proofs.clauses.nodes.InstalledValue.{installed_value}
 use Rattle.md_machine.proofs.lists.Options.{none_some}
-use Rattle.md_machine.proofs.replay.Settled.{meant_fated}
 use Rattle.md_machine.proofs.resolutions.Placing.{least_resolves}
 use Rattle.md_rule.specs.Admitted.{Admitted}
 use Rattle.md_rule.proofs.Moves.{is_kept, is_meant}
@@ -61,7 +60,7 @@ module _ (M : Meaning) (lawful : Lawful M) (t : TxnState) (cs : List Certificate
   -- and of that of the least one
   pub known_least : (P : TxnState → LogicalHeap → Type 0) → Known M t P → P t (logical_heap m (least m.fates))
   known_least P known = known_here P known (least m.fates)
-      (least_resolves m.history m.fates (meant_fated M m (is_meant M t.field.origin lawful m admitted)))
+      (least_resolves m.history m.fates (is_meant M t.field.origin lawful m admitted).fated)
 
   pub prepared_node : (n : OwnNode) → Contains t.nodes n → IsPreparedNode t n
   prepared_node n c = All-contains (IsPreparedNode t) t.nodes n going.prepared.nodes c

@@ -1,6 +1,7 @@
 //! The theorem over all schedules, and the facts that are lent, at queues alone.
 
 ghost use Rattle.md_machine.specs.Legal.{AlwaysMeant};
+ghost use Rattle.md_machine.specs.Serial.{SchedulesAreSerial};
 ghost use Rattle.md_machine.specs.Theorem.{AlwaysKept, AlwaysGoesOn};
 ghost use Rattle.md_queue_law.specs.QueueFacts.{HeadNamesOne, TailNamesOne, RanksRise, LastAlone};
 ghost use Rattle.md_queue_law.specs.QueueMeaning.{queue_meaning};
@@ -14,6 +15,7 @@ fn schedules_of_queues()
     ensures kept { AlwaysKept queue_meaning }
     ensures goes_on { AlwaysGoesOn queue_meaning }
     ensures legal { AlwaysMeant queue_meaning }
+    ensures serial { SchedulesAreSerial queue_meaning }
 {
     all_schedules::<QueueTheory>();
 }

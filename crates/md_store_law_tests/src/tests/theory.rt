@@ -2,7 +2,9 @@
 
 ghost use Rattle.md_machine.specs.Event.{CanOpen};
 ghost use Rattle.md_machine.specs.Legal.{AlwaysMeant};
+ghost use Rattle.md_machine.specs.Serial.{SchedulesAreSerial};
 ghost use Rattle.md_machine.specs.Theorem.{AlwaysKept, AlwaysGoesOn};
+ghost use Rattle.md_machine_schedules.specs.Clearing.{ClearingRow};
 ghost use Rattle.md_machine_schedules.specs.Field.{small_opening};
 ghost use Rattle.md_machine_schedules.specs.Schedules.{StoppedRow, HelpedRow, MovedRow};
 ghost use Rattle.md_machine_schedules.specs.Unlinking.{UnlinkedRow};
@@ -10,7 +12,7 @@ ghost use Rattle.md_store_law.specs.Store.{store};
 
 use md_list_law::list_facts;
 use md_machine::all_schedules;
-use md_machine_schedules::{unlinking_row, worked_rows};
+use md_machine_schedules::{clearing_row, unlinking_row, worked_rows};
 use md_queue_law::queue_facts;
 use md_store_law::{StoreTheory, even_fields_are_stores};
 use std::test::Fail;
@@ -20,6 +22,7 @@ fn schedules_of_stores()
     ensures kept { AlwaysKept store }
     ensures goes_on { AlwaysGoesOn store }
     ensures legal { AlwaysMeant store }
+    ensures serial { SchedulesAreSerial store }
 {
     all_schedules::<StoreTheory>();
 }
@@ -28,11 +31,13 @@ fn schedules_of_stores()
 // empty field on which they run may be opened
 fn schedules_with_certificates()
     ensures opens { CanOpen store small_opening }
+    ensures cleared { ClearingRow store }
     ensures stopped { StoppedRow store }
     ensures helped { HelpedRow store }
     ensures moved { MovedRow store }
     ensures unlinked { UnlinkedRow store }
 {
+    clearing_row::<StoreTheory>();
     worked_rows::<StoreTheory>();
     unlinking_row::<StoreTheory>();
 }

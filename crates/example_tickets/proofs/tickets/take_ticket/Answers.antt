@@ -4,9 +4,11 @@ use Rattle.md_words.specs.declared.content.Content.{Content}
 use Rattle.md_words.specs.Content.{count_of, is_even, word_of}
 use Rattle.md_words.proofs.Words.{count_of-counted_word}
 use Rattle.md_machine.specs.declared.step.TheConstants.{LAST_COUNT}
-use Rattle.example_cell.specs.CellMeaning.{cell_word}
-use Rattle.example_tickets.specs.Taken.{TakenBelow}
-use Rattle.example_tickets.proofs.Meeting.{exchange_keeps, exchange_takes, exchange_none, load_above, load_keeps, load_none}
+use Rattle.md_machine.specs.Event.{load}
+use Rattle.example_cell.specs.CellMeaning.{cell_meaning, cell_word}
+use Rattle.md_rule.specs.Steps.{SteppedFrom}
+use Rattle.example_tickets.specs.Taken.{TakenBelow, TookTicket}
+use Rattle.example_tickets.proofs.Meeting.{exchange_keeps, exchange_takes, exchange_none, load_above, load_keeps, load_none, took}
 use Rattle.example_tickets.proofs.tickets.take_ticket.Goals.{then-found-ne0-via-then-found-ne0, then-found-ne0-via-else-found-ne0+then-found-gt-LAST_COUNT}
 use Rattle.example_tickets.proofs.tickets.take_ticket.Goals as goal
 
@@ -68,3 +70,14 @@ returns-in-Ok-clause-taken c =
       subst (λ n. TakenBelow o.shape c.renew.new.pass.view (n + 2)) held (exchange_takes o (word_of found) found.value c.load.new.self.view c.renew.new.pass.view c.in-Ok.ensures.step (subst (λ n. n ≤ LAST_COUNT) (sym held) few)),
       few,
     )
+
+pub returns-in-Ok-clause-took : goal.returns-in-Ok-clause-took
+returns-in-Ok-clause-took c =
+    let o = c.args.field.now.origin in
+    let found = c.of-found.result in
+    let few : found.count ≤ LAST_COUNT = c.if-found-gt-LAST_COUNT.false in
+    let held = count_held found few in
+    let load = subst (λ w. SteppedFrom cell_meaning o (λ pass. load pass w) w c.load.result c.args.pass.now.view c.load.new.self.view) c.ticket_word-word.ensures.place c.load.ensures.step in
+    subst (λ n. TookTicket o.shape n c.args.pass.now.view c.renew.new.pass.view) held
+    (took o (word_of found) found.value c.load.result c.args.pass.now.view c.load.new.self.view c.renew.new.pass.view load c.in-Ok.ensures.step
+    (subst (λ n. n ≤ LAST_COUNT) (sym held) few))

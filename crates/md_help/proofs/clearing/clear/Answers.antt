@@ -1,4 +1,4 @@
-use Rattle.std.proofs.Common.{◌+◌, ◌≤◌, sym, ap, subst, ◌∙◌}
+use Rattle.std.proofs.Common.{◌+◌, ◌≤◌, ◌∷◌, [], sym, ap, subst, ◌∙◌}
 use Rattle.md_words.specs.declared.content.Content.{Content}
 use Rattle.md_words.specs.declared.content.Spot.{Spot}
 use Rattle.md_words.specs.Content.{count_of, word_of}
@@ -10,6 +10,8 @@ use Rattle.md_machine.specs.Event.{load}
 use Rattle.md_machine.specs.events.Uninstall.{desc_in, status_of_desc}
 use Rattle.md_rule.specs.Steps.{SteppedFrom}
 use Rattle.md_rule.specs.Views.{PassState}
+use Rattle.md_help.specs.declared.settling.End.TheVariants.{Gone}
+use Rattle.md_help.proofs.Decided.{cleared_decided, found_after, found_rises}
 use Rattle.md_help.proofs.Deciding.{newer_few}
 use Rattle.md_help.proofs.Finishing.{clears_gone, clears_later, found_fits, saw_twice, spot_exists}
 use Rattle.md_help.proofs.Flagged.{flagged_load}
@@ -35,8 +37,10 @@ returns-then-moved-clause-clears g c =
     let at = c.status.ensures.place ∙ ap (λ s. address s (desc_status c.spot_in-desc.result.desc)) c.shape.ensures ∙ ap (λ (s : Spot). address o.shape (desc_status s.desc)) c.spot_in-desc.ensures in
     let step = subst (λ w. SteppedFrom M o (λ pass. load pass w) w c.load-status.result p q) at c.load-status.ensures.step in
     let look = made_load M o c.args.word c.load-left.result q r c.load-left.ensures.step in
-    clears_gone o.shape c.args.word from c.load-status.result c.load-left.result p q r (made_load M o (status_of_desc o.shape from) c.load-status.result p q step) look (flagged_load M o c.args.word c.load-left.result c.load-left.result q r look c.load-left.ensures.step.0)
-    (λ e. c.if-moved.true (e ∙ sym c.word.ensures.whole))
+    let ask = made_load M o (status_of_desc o.shape from) c.load-status.result p q step in
+    clears_gone o.shape c.args.word from c.load-status.result c.load-left.result p q r ask look (flagged_load M o c.args.word c.load-left.result c.load-left.result q r look c.load-left.ensures.step.0)
+    (found_rises M o (λ pass. load pass c.args.word) c.args.word from c.load-left.result q r c.requires.way.counted
+    (found_after o.shape c.args.word from (ask.step ∷ []) p q ask.goes c.requires.way.met) (λ e. c.if-moved.true (e ∙ sym c.word.ensures.whole)) c.load-left.ensures.step)
 
 pub finish-requires-clause-stands : goal.finish-requires-clause-stands
 finish-requires-clause-stands g c =
@@ -116,3 +120,13 @@ returns-clause-same g c =
 
 pub returns-clause-stands : goal.returns-clause-stands
 returns-clause-stands g c = c.finish.ensures.steps.stands
+
+pub returns-then-moved-clause-decided : goal.returns-then-moved-clause-decided
+returns-then-moved-clause-decided g c =
+    cleared_decided g.T.Theory.meaning c.args.field.now.origin c.args.word (word_of c.args.found) (record { end = Gone; left = c.load-left.result })
+    c.args.pass.now.view c.load-left.new.self.view c.requires.way.counted (returns-then-moved-clause-clears g c)
+
+pub returns-clause-decided : goal.returns-clause-decided
+returns-clause-decided g c =
+    cleared_decided g.T.Theory.meaning c.args.field.now.origin c.args.word (word_of c.args.found) c.finish.result
+    c.args.pass.now.view c.finish.new.pass.view c.requires.way.counted (returns-clause-clears g c)

@@ -14,7 +14,7 @@ use Rattle.md_help.specs.Settles.{MetStatus, Settled}
 use Rattle.md_help.proofs.Finishing.{finishes_gone, finishes_taken, saw_decided, saw_met, saw_status}
 use Rattle.md_help.proofs.Flagged.{flagged_load}
 use Rattle.md_help.proofs.Steps.{made_load, stands_made}
-use Rattle.md_help.proofs.Taking.{gone_apart}
+use Rattle.md_help.proofs.Taking.{gone_rises}
 use Rattle.md_help.proofs.clearing.finish.Goals as goal
 
 pub settle-end-requires-clause-attempt : goal.settle-end-requires-clause-attempt
@@ -65,7 +65,7 @@ returns-in-Gone-clause-finishes g c =
     let s = subst (λ (s : Spot). Settled o.shape s.desc c.args.status 2 Gone p q) c.spot_in-desc.ensures t in
     let last = made_load M o c.args.word c.load-left.result q r c.load-left.ensures.step in
     finishes_gone o.shape c.args.word from c.args.status c.load-left.result p q r s last (flagged_load M o c.args.word c.load-left.result c.load-left.result q r last c.load-left.ensures.step.0)
-    (gone_apart M o c.args.word from c.args.status c.load-left.result s.steps p q r c.requires.slot.counted c.requires.slot.odd c.requires.saw s.goes s.ends c.load-left.ensures.step)
+    (gone_rises M o c.args.word from c.args.status c.load-left.result s.steps p q r c.requires.slot.counted c.requires.slot.odd c.requires.saw s.goes s.ends c.load-left.ensures.step)
 
 pub returns-in_default-clause-steps : goal.returns-in_default-clause-steps
 returns-in_default-clause-steps g c = record {

@@ -7,9 +7,10 @@ use Rattle.md_machine.specs.events.Uninstall.{uninstalled_word}
 use Rattle.md_rule_lanes.proofs.Counting.{count_of_word}
 use Rattle.md_rule.specs.Views.{PassState}
 use Rattle.md_help.specs.Clears.{TakenOut, fate_of}
+use Rattle.md_help.proofs.Decided.{decided_found, found_rises}
 use Rattle.md_help.proofs.Flagged.{flagged_uninstall}
 use Rattle.md_help.proofs.Steps.{stands_made}
-use Rattle.md_help.proofs.Taking.{count_apart, fate_decided, may_uninstall, taken_out, uninstall_lost, uninstall_won}
+use Rattle.md_help.proofs.Taking.{count_rises, fate_decided, may_uninstall, taken_out, uninstall_lost, uninstall_won}
 use Rattle.md_help.proofs.clearing.take_out.Goals as goal
 
 pub uninstall-requires-clause-may : goal.uninstall-requires-clause-may
@@ -43,7 +44,7 @@ returns-in-Ok-clause-taken g c =
     let take = uninstall_won M o c.args.word from value q r c.in-Ok.ensures.step in
     subst (λ left. TakenOut o.shape c.args.word from (fate_of c.args.end) left p r) (sym is)
     (taken_out o.shape c.args.word from value from (uninstalled_word from value) (fate_of c.args.end) p q r c.slot_value-value.ensures.loaded take
-    (inl (refl, refl)) (count_apart from value (subst (λ n. n ≤ LAST_COUNT + 1) (sym count) c.requires.slot.fits))
+    (inl (refl, refl)) (count_rises from value (subst (λ n. n ≤ LAST_COUNT + 1) (sym count) c.requires.slot.fits))
     (flagged_uninstall M o c.args.word from value from (uninstalled_word from value) q r take c.in-Ok.ensures.step.0))
 
 pub returns-in-Err-clause-steps : goal.returns-in-Err-clause-steps
@@ -71,5 +72,7 @@ returns-in-Err-clause-taken g c =
     let r = c.uninstall.new.self.view in
     let step = c.in-Err.ensures.step in
     let take = uninstall_lost M o c.args.word from value c.in-Err.left q r step.0 step.1 in
-    taken_out o.shape c.args.word from value c.in-Err.left c.in-Err.left (fate_of c.args.end) p q r c.slot_value-value.ensures.loaded take (inr (step.0, refl)) step.0
+    taken_out o.shape c.args.word from value c.in-Err.left c.in-Err.left (fate_of c.args.end) p q r c.slot_value-value.ensures.loaded take (inr (step.0, refl))
+    (found_rises M o (λ pass. uninstall pass c.args.word from value) c.args.word from c.in-Err.left q r c.requires.slot.counted
+    (decided_found o.shape c.args.word from value (fate_of c.args.end) (fate_of c.args.end) p q c.requires.saw c.slot_value-value.ensures.loaded) step.0 step.1)
     (flagged_uninstall M o c.args.word from value c.in-Err.left c.in-Err.left q r take step.1.0)

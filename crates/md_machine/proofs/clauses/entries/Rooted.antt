@@ -2,6 +2,7 @@
 use Rattle.std.proofs.Common.{◌≡◌, ◌==◌, ℕ, Bool, true, false, List, [], ◌∷◌, ◌++◌, length, map, refl, sym, ap, ◌∙◌, subst, ⊎_elim, eq-eqb, Option, Some, None, arith}
 use Rattle.std.proofs.lemmas.Bool.{cond_both, true≢false}
 use Rattle.std.proofs.lemmas.List.{length-map, map-append}
+use Rattle.std.specs.Prelude.{All}
 use Rattle.std.proofs.lemmas.List.Elements.{All-weaker}
 use Rattle.md_words.specs.declared.shape.Shape.{Shape}
 use Rattle.md_words.specs.Layout.{IsNode, address}
@@ -23,9 +24,23 @@ use Rattle.md_machine.proofs.lists.Options.{none_some}
 use Rattle.md_machine.specs.Certified.{after_wholes, all_nodes}
 use Rattle.md_machine.specs.LogicalHeap.{IsNoUnplacedNext, IsPlaced, LogicalHeap, put}
 use Rattle.md_machine.specs.Machine.{Machine}
-use Rattle.md_machine.specs.Resolution.{entries_of, kept_structure, logical_heap, or_else, placed_under, structure_in}
-use Rattle.md_machine.specs.clauses.entries.Rooted.{EachKept, EntriesRooted, IsRooted}
+use Rattle.md_machine.specs.Resolution.{Resolves, entries_of, kept_structure, logical_heap, or_else, placed_under, structure_in}
 use Rattle.md_machine.specs.events.Ready.{history_entry}
+
+-- something is true of each entry that a choice keeps
+abbrev pub EachKept : (HistoryEntry → Type 0) → List HistoryEntry → List Bool → Type 0
+EachKept P (e ∷ es) (true ∷ choice) = P e × EachKept P es choice
+EachKept P (e ∷ es) (false ∷ choice) = EachKept P es choice
+EachKept P _ _ = Unit {0}
+
+-- the word of each slot of an entry is the next word of no node but a placed one
+abbrev pub IsRooted : LogicalHeap → HistoryEntry → Type 0
+IsRooted h e = All (λ w. IsNoUnplacedNext h w.word) e.writes
+
+-- in each resolution each entry that it keeps is rooted
+abbrev pub EntriesRooted : Machine → Type 0
+EntriesRooted m = (choice : List Bool) → Resolves m choice
+    → EachKept (IsRooted (logical_heap m choice)) m.history choice
 
 -- each of two structures is one of both
 else_first : (x y : Option Structure) (s : Structure) → x ≡ Some s → (t : Structure) × (or_else x y ≡ Some t)

@@ -15,7 +15,8 @@ use Rattle.md_machine.proofs.events.MoveFacts.{MoveFacts}
 use Rattle.md_machine.proofs.events.Moves.{FrontGoes, PassesGo, goes_on, is_joined, is_split, learns, sees_all}
 use Rattle.md_machine.proofs.fates.Decidedness.{MoreDecided, more_first, more_itself, more_known, more_second, all_both}
 use Rattle.md_machine.proofs.lists.At.{at_append, at_one, at_set}
-use Rattle.md_machine.specs.Legal.{FrontsLegal, HistoryIsLegal, opening_state}
+use Rattle.md_machine.specs.Legal.{opening_state}
+use Rattle.md_machine.proofs.replay.Replays.{FrontsLegal, HistoryIsLegal}
 use Rattle.md_machine.specs.Machine.{Machine, shape_of}
 use Rattle.md_machine.specs.Meaning.{Meaning}
 use Rattle.md_machine.specs.Resolution.{entries_of}

@@ -20,12 +20,16 @@ use Rattle.md_machine.specs.Own.{HasDesc}
 use Rattle.md_machine.specs.Stepping.{attempt_in_hand}
 use Rattle.md_machine.specs.Trail.{segments}
 use Rattle.md_machine.specs.clauses.passes.Hands.{HandsFit}
-use Rattle.md_machine.specs.clauses.passes.InHand.{FreeOf}
 use Rattle.md_machine.specs.clauses.passes.Lanes.{LanesApart}
 use Rattle.md_machine.specs.clauses.passes.StepsBegun.{StepsAreBegun}
 use Rattle.md_machine.specs.events.Mark.{new_hand}
 use Rattle.md_machine.specs.events.SplitJoin.{given_part, joined_part, kept_part, moved_step, spent}
 
+-- no step of some segments was made for an attempt
+abbrev pub FreeOf : AttemptId → List (List Step) → Type 0
+FreeOf a all = (segment : List Step) → Contains all segment → (s : Step) → Contains segment s → s.attempt ≡ Some a → ⊥
+
+-- and no step of a pass but one
 abbrev pub AwayIn : List PassView → AttemptId → (pass : ℕ) → Type 0
 AwayIn passes a pass = (j : ℕ) (q : PassView) → At passes j q → j ≢ pass → FreeOf a (segments q)
 

@@ -20,9 +20,18 @@ use Rattle.md_machine.proofs.events.Moves.{own_exists}
 use Rattle.md_machine.proofs.events.WordChanges.{Stores, at_left, at_place, statuses_go_on}
 use Rattle.md_machine.proofs.lists.Rising.{filter_in, in_filter, in_map, map_in}
 use Rattle.md_machine.specs.Machine.{Install, IsPresentIn, Machine, same_attempt, shape_of, status_at, word_at}
-use Rattle.md_machine.specs.clauses.slots.EntrySlots.{EntriesKeepSlots, SlotsAreInstalls}
 use Rattle.md_machine.specs.clauses.passes.Hands.{HandsFit}
 use Rattle.md_machine.specs.events.Ready.{history_entry, installs_by, write_now, writes_now}
+
+-- the slots of an entry are those that its attempt installed, each with its word, its old content, and the new value
+-- that stands in the descriptor
+pub record SlotsAreInstalls (m : Machine) (e : HistoryEntry) : Type 0 where
+  pub made : (w : Write) → Contains e.writes w → (i : Install) × Contains m.installs i × (i.attempt ≡ e.attempt) × (write_now m i ≡ w)
+  pub all : (i : Install) → Contains m.installs i → i.attempt ≡ e.attempt → Contains e.writes (write_now m i)
+
+-- so it is of every entry whose attempt is the present one of its descriptor
+abbrev pub EntriesKeepSlots : Machine → Type 0
+EntriesKeepSlots m = (e : HistoryEntry) → Contains m.history e → IsPresentIn (shape_of m) m.words e.attempt → SlotsAreInstalls m e
 
 -- an entry that has the slots of its attempt
 has_now : (m : Machine) (e : HistoryEntry) → e.writes ≡ writes_now m e.attempt → SlotsAreInstalls m e

@@ -17,6 +17,8 @@ use Rattle.md_machine.specs.declared.attempt.Write.{Write}
 use Rattle.md_machine.specs.declared.pass.PassView.{PassView}
 use Rattle.md_machine.specs.declared.node.Structure.{Structure}
 use Rattle.md_machine.proofs.chain.Values.{installed_spot, value_odd}
+use Rattle.md_machine.proofs.clauses.entries.Rooted.{EachKept, EntriesRooted, IsRooted}
+use Rattle.md_machine.proofs.clauses.slots.EntrySlots.{EntriesKeepSlots}
 use Rattle.md_machine.proofs.clauses.slots.Installs.{InstallsKept}
 use Rattle.md_machine.proofs.clauses.words.Stamps.{Stamp, StampsKept}
 use Rattle.md_machine.proofs.events.Attempts.{attempt_same, same_parts}
@@ -25,14 +27,12 @@ use Rattle.md_machine.proofs.lists.Rising.{here, there}
 use Rattle.md_machine.proofs.resolutions.Placing.{greatest_resolves}
 use Rattle.md_machine.specs.FreeToReturn.{IsFreeToReturn, IsInPreparation}
 use Rattle.md_machine.specs.Installs.{IsUndecided, spot_of_install}
-use Rattle.md_machine.specs.Legal.{EveryHeapIsReplay}
+use Rattle.md_machine.proofs.replay.Replays.{EveryHeapIsReplay}
 use Rattle.md_machine.specs.LogicalHeap.{IsNoUnplacedNext}
 use Rattle.md_machine.specs.Machine.{Install, IsPresentIn, Machine, attempt_of, present, same_attempt, shape_of, word_at}
 use Rattle.md_machine.specs.Meaning.{Lawful, Meaning, NamesPlaced}
 use Rattle.md_machine.specs.Resolution.{greatest, is_kept, logical_heap, logical_value, may_commit, never_placed, placed_under, value_under}
 use Rattle.md_machine.specs.clauses.entries.Fates.{FatesTold, Tells}
-use Rattle.md_machine.specs.clauses.entries.Rooted.{EachKept, EntriesRooted, IsRooted}
-use Rattle.md_machine.specs.clauses.slots.EntrySlots.{EntriesKeepSlots}
 use Rattle.md_machine.specs.clauses.slots.Undecided.{UndecidedStand}
 use Rattle.md_machine.specs.clauses.slots.UndecidedSlots.{NamesNode, UndecidedNamePlaced, may_still_commit, new_value_of}
 use Rattle.md_machine.specs.events.Ready.{write_now}

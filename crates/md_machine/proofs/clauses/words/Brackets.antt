@@ -1,9 +1,8 @@
 -- A status that a pass found after a content that still stands is one of the attempt that stands there.
-use Rattle.std.proofs.Common.{◌≡◌, ℕ, ◌<◌, List, length, set, get_or, refl, sym, ap, ◌∙◌, subst, inl, inr, ⊎_elim, get_or-set_same, get_or-set_other, arith}
+use Rattle.std.proofs.Common.{◌≡◌, ℕ, List, set, get_or, refl, sym, ap, ◌∙◌, subst, inl, inr, ⊎_elim, get_or-set_same, get_or-set_other, arith}
 use Rattle.std.proofs.lemmas.Bool.{cases_eq}
-use Rattle.std.proofs.lemmas.List.Elements.{Contains-push}
 use Rattle.md_words.specs.declared.shape.Shape.{Shape}
-use Rattle.md_words.specs.Content.{count_of, is_even, spot_of, value_of}
+use Rattle.md_words.specs.Content.{count_of, is_even}
 use Rattle.md_words.specs.Status.{serial_of}
 use Rattle.md_words.specs.Place.{desc_status}
 use Rattle.md_words.specs.Layout.{address}
@@ -12,20 +11,18 @@ use Rattle.md_words.specs.PlaceAt.{IsCounted}
 use Rattle.md_words.proofs.Places.{address_below}
 use Rattle.md_machine.specs.declared.step.Step.{Step}
 use Rattle.md_machine.specs.declared.pass.PassView.{PassView}
-use Rattle.md_machine.proofs.chain.Values.{installed_spot}
 use Rattle.md_machine.proofs.clauses.slots.Installs.{InstallsKept}
-use Rattle.md_machine.proofs.clauses.slots.OddWords.{installed_names, standing_serial}
+use Rattle.md_machine.proofs.clauses.slots.OddWords.{standing_serial}
 use Rattle.md_machine.proofs.clauses.words.Stamps.{Stamp, StampsKept}
 use Rattle.md_machine.proofs.events.MoveFacts.{MoveFacts}
 use Rattle.md_machine.proofs.events.Steps.{HasStep}
 use Rattle.md_machine.proofs.events.WordChanges.{at_counted}
-use Rattle.md_machine.proofs.lists.Pairs.{EachPair, pairs-kept, pairs_weaker}
-use Rattle.md_machine.proofs.lists.Triples.{EachTriple, triples-kept}
-use Rattle.md_machine.specs.Machine.{Install, Machine, content, shape_of, status_at, word_at}
+use Rattle.md_machine.proofs.lists.Pairs.{EachPair, pairs-kept}
+use Rattle.md_machine.specs.Machine.{Machine, content, shape_of, status_at, word_at}
 use Rattle.md_machine.specs.clauses.passes.Hands.{HandsFit}
 use Rattle.md_machine.specs.clauses.slots.OddWords.{OddStand}
-use Rattle.md_machine.specs.clauses.words.Brackets.{MeetsOdd, NotesBetween, NotesSerial, NotesStanding, WasInstalled, serial_in}
-use Rattle.md_machine.specs.events.Uninstall.{desc_in, status_of_desc}
+use Rattle.md_machine.specs.clauses.words.Brackets.{MeetsOdd, NotesSerial, NotesStanding}
+use Rattle.md_machine.specs.events.Uninstall.{desc_in}
 
 -- so it is in every segment of every pass
 abbrev pub TrailsBracket : Shape → List ℕ → List PassView → Type 0
@@ -71,7 +68,7 @@ module _ (m : Machine) (stamp : Stamp) (stamps : StampsKept m stamp) (k : Instal
       → serial_of (status_at m (desc_in (content m s.word))) ≡ serial_of (word_at (shape_of m) later (desc_status (desc_in (content m s.word))))
   same_serial s has met = let was = met_before s has met in (standing_serial m stamp stamps k n v field hands odd_stand s.word was.counted was.odd).1
 
-  pub old_brackets : (s t : Step) → HasStep m.passes s → NotesStanding (shape_of m) m.words s t → NotesStanding (shape_of m) later s t
+  old_brackets : (s t : Step) → HasStep m.passes s → NotesStanding (shape_of m) m.words s t → NotesStanding (shape_of m) later s t
   old_brackets s t has b met at =
       let same = ap desc_in (stood s has met) in
       let notes = b (met_before s has met) (at ∙ ap (λ d. address (shape_of m) (desc_status d)) same) in
@@ -94,64 +91,3 @@ module _ (m : Machine) (stamp : Stamp) (stamps : StampsKept m stamp) (k : Instal
 
   pub brackets-kept : TrailsBracket (shape_of m) m.words m.passes → TrailsBracket (shape_of m) later n.passes
   brackets-kept = pairs-kept m.passes n.passes v.step (NotesStanding (shape_of m) m.words) (NotesStanding (shape_of m) later) v.from old_brackets new_brackets
-
--- where a step met what stands in its word, a later status is that of the install that stands there
-standing_install : (shape : Shape) (words : List ℕ) (installs : List Install) (passes : List PassView) → OddStand shape words installs
-    → InstallsKept shape words installs passes
-    → (s t : Step) → NotesStanding shape words s t → (word held : ℕ) → held ≡ get_or words word 0 → MeetsOdd shape word held s → t.word ≡ status_of_desc shape held
-    → (serial : ℕ) × NotesSerial serial t × WasInstalled installs word held serial
-standing_install shape words installs passes odd k s t notes word held now met at =
-    let stands = odd word met.counted (ap (λ c. is_even (count_of c)) (sym now) ∙ met.odd) in
-    let i = stands.install in
-    let fits = k.fits i stands.made in
-    let here' : held ≡ get_or words s.word 0 = now ∙ ap (λ w. get_or words w 0) (sym met.there) in
-    let noted = notes (record {
-      counted = subst (IsCounted shape) (sym met.there) met.counted;
-      odd = ap (λ c. is_even (count_of c)) (sym here') ∙ met.odd;
-      there = refl;
-      met = ⊎_elim (λ b. inl (b ∙ here')) (λ a. inr (a ∙ here')) met.met;
-    }) (at ∙ ap (status_of_desc shape) here') in
-    let desc : desc_in (get_or words s.word 0) ≡ i.attempt.desc = ap desc_in (sym here' ∙ now ∙ stands.holds) ∙ installed_names i fits.room (fits.slot stands.present).exists.1 in (
-      serial_in shape words (get_or words s.word 0),
-      noted,
-      record {
-        install = i;
-        made = stands.made;
-        there = stands.there;
-        left = now ∙ stands.holds;
-        spot = sym (ap (λ c. spot_of (value_of c)) (now ∙ stands.holds) ∙ installed_spot i fits.room (fits.slot stands.present).exists.1);
-        of = stands.present ∙ ap (λ d. serial_of (word_at shape words (desc_status d))) (sym desc);
-      },
-    )
-
-module _ (m n : Machine) (v : MoveFacts m n) (field : IsField (shape_of m) m.words)
-    (k : InstallsKept (shape_of m) m.words m.installs m.passes) (odd_stand : OddStand (shape_of m) m.words m.installs)
-    (new_k : InstallsKept (shape_of m) (set m.words v.word v.new) n.installs n.passes) (new_odd : OddStand (shape_of m) (set m.words v.word v.new) n.installs) where
-  still_installed : (word held serial : ℕ) → WasInstalled m.installs word held serial → WasInstalled n.installs word held serial
-  still_installed word held serial w = record { install = w.install; made = v.installs_stay w.install w.made; there = w.there; left = w.left; spot = w.spot; of = w.of }
-
-  old_between : (s t u : Step) → NotesBetween (shape_of m) m.installs s t u → NotesBetween (shape_of m) n.installs s t u
-  old_between s t u was word held first second at = let r = was word held first second at in (r.0, r.1, still_installed word held r.0 r.2)
-
-  -- what the new step met stands before it, or after it
-  new_between : (s t : Step) → NotesStanding (shape_of m) m.words s t → NotesStanding (shape_of m) (set m.words v.word v.new) s t
-      → NotesBetween (shape_of m) n.installs s t v.step
-  new_between s t before after word held first second at =
-      let is : v.word ≡ word = sym v.there ∙ second.there in
-      let inside : word < length m.words = let counted = second.counted.0 in omega (arith, counted, field) in
-      ⊎_elim
-      (λ b.
-      let r = standing_install (shape_of m) m.words m.installs m.passes odd_stand k s t before word held (sym b ∙ v.before ∙ ap (content m) is) first at in
-      (r.0, r.1, still_installed word held r.0 r.2))
-      (λ a. standing_install (shape_of m) (set m.words v.word v.new) n.installs n.passes new_odd new_k s t after word held
-      (sym a ∙ v.after ∙ sym (ap (λ w. get_or (set m.words v.word v.new) w 0) (sym is) ∙ get_or-set_same m.words v.word v.new 0 (subst (λ w. w < length m.words) (sym is) inside))) first at)
-      second.met
-
-  -- every event keeps what was noted between
-  pub between-kept : TrailsBracket (shape_of m) m.words m.passes
-      → ((s t : Step) → HasStep m.passes s → NotesStanding (shape_of m) m.words s t → NotesStanding (shape_of m) (set m.words v.word v.new) s t)
-      → EachTriple (NotesBetween (shape_of m) m.installs) m.passes → EachTriple (NotesBetween (shape_of m) n.installs) n.passes
-  between-kept brackets goes = triples-kept m.passes n.passes v.step (NotesBetween (shape_of m) m.installs) (NotesBetween (shape_of m) n.installs) v.from old_between
-      (λ pass p at. let last = Contains-push p.past p.trail in
-      pairs_weaker (NotesStanding (shape_of m) m.words) (λ s t. NotesBetween (shape_of m) n.installs s t v.step) p.trail
-      (λ s i t b. new_between s t b (goes s t (pass, p, at, (p.trail, last, i)) b)) (brackets pass p at p.trail last))

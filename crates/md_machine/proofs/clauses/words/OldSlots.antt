@@ -1,8 +1,9 @@
 -- A load of a slot's old content, made after the descriptor was met in a word where it still stands, found what stands
 -- in the slot now.
-use Rattle.std.proofs.Common.{◌≡◌, ℕ, List, sym, ap, ◌∙◌, subst, set, get_or, false}
+use Rattle.std.proofs.Common.{◌≡◌, ℕ, List, slice_index, sym, ap, ◌∙◌, subst, set, get_or, false}
 use Rattle.md_words.specs.declared.content.Spot.{Spot}
-use Rattle.md_words.specs.Content.{count_of, is_even}
+use Rattle.md_words.specs.declared.shape.Shape.{Shape}
+use Rattle.md_words.specs.Content.{count_of, is_even, spot_of, value_of}
 use Rattle.md_words.specs.Place.{slot_old}
 use Rattle.md_words.specs.Layout.{address}
 use Rattle.md_words.specs.LayoutLaws.{IsField}
@@ -21,8 +22,21 @@ use Rattle.md_machine.proofs.lists.Pairs.{EachPair, pairs-kept}
 use Rattle.md_machine.specs.Installs.{spot_of_install}
 use Rattle.md_machine.specs.Machine.{Machine, content, shape_of, status_at, word_at}
 use Rattle.md_machine.specs.clauses.passes.Hands.{HandsFit}
+use Rattle.md_machine.specs.clauses.words.Brackets.{MeetsOdd}
 use Rattle.md_machine.specs.clauses.slots.OddWords.{OddStand}
-use Rattle.md_machine.specs.clauses.words.OldSlots.{OldSlotStands, old_place, spot_in_word}
+
+-- the slot that a word with this content names, and where its old content stands
+abbrev pub spot_in_word : ℕ → Spot
+spot_in_word held = spot_of (value_of held)
+
+abbrev pub old_place : Shape → (held : ℕ) → ℕ
+old_place shape held = address shape (slot_old (spot_in_word held).desc (spot_in_word held).slot)
+
+-- where a step met what stands in its word now, with an odd count, a later step on the old content of the slot there
+-- found what stands in the slot now
+abbrev pub OldSlotStands : Shape → List ℕ → (s t : Step) → Type 0
+OldSlotStands shape words s t = let held = slice_index words s.word in MeetsOdd shape s.word held s → t.word ≡ old_place shape held
+    → t.before ≡ slice_index words t.word
 
 module _ (m : Machine) (stamp : Stamp) (stamps : StampsKept m stamp) (k : InstallsKept (shape_of m) m.words m.installs m.passes)
     (n : Machine) (v : MoveFacts m n) (field : IsField (shape_of m) m.words) (hands : HandsFit (shape_of m) m.words m.passes) (odd_stand : OddStand (shape_of m) m.words m.installs) where

@@ -1,5 +1,5 @@
 -- What was stored last for a present attempt stands, after every event.
-use Rattle.std.proofs.Common.{◌≡◌, ℕ, ◌⊎◌, List, [], ◌∷◌, ◌++◌, get_or, set, sym, ap, ◌∙◌, subst, inl, inr, ⊎_elim, Some, get_or-set_same, get_or-set_other, arith}
+use Rattle.std.proofs.Common.{◌≡◌, ℕ, ◌⊎◌, List, [], ◌∷◌, ◌++◌, get_or, set, refl, sym, ap, ◌∙◌, subst, inl, inr, ⊎_elim, Some, get_or-set_same, get_or-set_other, arith}
 use Rattle.std.specs.List.{Contains, All}
 use Rattle.std.proofs.lemmas.Bool.{cases_eq}
 use Rattle.std.proofs.lemmas.List.{set-get_or}
@@ -37,9 +37,9 @@ StoresStand shape words passes = (pass : ℕ) (p : PassView) → At passes pass 
     → (word held : ℕ) → IsEntryWord a.desc (place_at shape word) → LastStored p a word held → get_or words word 0 ≡ held
 
 -- where one step was added at the end, a step is that one, or stood before it
-last_split : (xs : List Step) (y : Step) (earlier : List Step) (s : Step) (later : List Step) → xs ++ y ∷ [] ≡ earlier ++ s ∷ later
-    → ((s ≡ y) × (later ≡ [])) ⊎ ((rest : List Step) × (later ≡ rest ++ y ∷ []) × (xs ≡ earlier ++ s ∷ rest))
-last_split [] y [] s later e = inl (cc, cc)
+pub last_split : (xs : List Step) (y : Step) (earlier : List Step) (s : Step) (later : List Step) → xs ++ y ∷ [] ≡ earlier ++ s ∷ later
+    → ((s ≡ y) × (later ≡ []) × (earlier ≡ xs)) ⊎ ((rest : List Step) × (later ≡ rest ++ y ∷ []) × (xs ≡ earlier ++ s ∷ rest))
+last_split [] y [] s later e = inl (cc, cc, refl)
 last_split [] y (x ∷ earlier) s later e = absurd (in_none s (subst (λ l. Contains l s) (sym (tail_none e)) (Contains-append_right earlier (s ∷ later) s (here s later))))
   where
     tail_none : y ∷ [] ≡ x ∷ earlier ++ s ∷ later → [] ≡ earlier ++ s ∷ later
@@ -51,13 +51,16 @@ last_split (x ∷ xs) y [] s later e = inr (xs, tail_is e, head_is e)
 
     head_is : x ∷ xs ++ y ∷ [] ≡ s ∷ later → x ∷ xs ≡ s ∷ xs
     head_is e = cc
-last_split (x ∷ xs) y (z ∷ earlier) s later e = ⊎_elim inl (λ r. inr (r.0, r.1, grown r.0 r.2)) (last_split xs y earlier s later (tail_is e))
+last_split (x ∷ xs) y (z ∷ earlier) s later e = ⊎_elim (λ l. inl (l.0, l.1, all_earlier l.2)) (λ r. inr (r.0, r.1, grown r.0 r.2)) (last_split xs y earlier s later (tail_is e))
   where
     tail_is : x ∷ xs ++ y ∷ [] ≡ z ∷ earlier ++ s ∷ later → xs ++ y ∷ [] ≡ earlier ++ s ∷ later
     tail_is e = cc
 
     first_is : x ∷ xs ++ y ∷ [] ≡ z ∷ earlier ++ s ∷ later → x ≡ z
     first_is e = cc
+
+    all_earlier : earlier ≡ xs → z ∷ earlier ≡ x ∷ xs
+    all_earlier r = let f = first_is e in cc
 
     grown : (rest : List Step) → xs ≡ earlier ++ s ∷ rest → x ∷ xs ≡ z ∷ earlier ++ s ∷ rest
     grown rest r = let f = first_is e in cc
@@ -66,7 +69,7 @@ all_left : (P : Step → Type 0) (xs ys : List Step) → All P (xs ++ ys) → Al
 all_left P [] ys h = All-nil P
 all_left P (x ∷ xs) ys h = All-cons P x xs (All-head P x (xs ++ ys) h) (all_left P xs ys (All-tail P x (xs ++ ys) h))
 
-in_middle : (earlier : List Step) (s : Step) (later : List Step) → Contains (earlier ++ s ∷ later) s
+pub in_middle : (earlier : List Step) (s : Step) (later : List Step) → Contains (earlier ++ s ∷ later) s
 in_middle earlier s later = Contains-append_right earlier (s ∷ later) s (here s later)
 
 module _ (m n : Machine) (v : MoveFacts m n) (field : IsField (shape_of m) m.words) (hands : HandsFit (shape_of m) m.words m.passes) (alone : HandsAlone m.begun m.passes) where

@@ -1,16 +1,14 @@
 -- What a status shows of an attempt that a step met in a word before it.
 use Rattle.std.specs.Prelude.{◌≡◌, ℕ, false, List, ◌∷◌, ◌++◌, slice_index, Contains, ◌⊎◌}
 use Rattle.md_words.specs.declared.shape.Shape.{Shape}
-use Rattle.md_words.specs.Content.{count_of, is_even, spot_of, value_of}
+use Rattle.md_words.specs.Content.{count_of, is_even}
 use Rattle.md_words.specs.Status.{serial_of}
 use Rattle.md_words.specs.Place.{desc_status}
 use Rattle.md_words.specs.PlaceAt.{IsCounted}
 use Rattle.md_machine.specs.declared.pass.PassView.{PassView}
 use Rattle.md_machine.specs.declared.step.Step.{Step}
-use Rattle.md_machine.specs.Installs.{spot_of_install}
-use Rattle.md_machine.specs.Machine.{Install, IsAt, Machine, shape_of, word_at}
+use Rattle.md_machine.specs.Machine.{IsAt, Machine, shape_of, word_at}
 use Rattle.md_machine.specs.Trail.{segments}
-use Rattle.md_machine.specs.events.Install.{installed_word}
 use Rattle.md_machine.specs.events.Uninstall.{desc_in, status_of_desc}
 
 -- a step met a content with an odd count in a counted word
@@ -35,27 +33,8 @@ abbrev pub NotesStanding : Shape → List ℕ → (s t : Step) → Type 0
 NotesStanding shape words s t = let held = slice_index words s.word in MeetsOdd shape s.word held s
     → t.word ≡ status_of_desc shape held → NotesSerial (serial_in shape words held) t
 
--- an attempt with this serial was installed in the word, and that left this content
-pub record WasInstalled (installs : List Install) (word held serial : ℕ) : Type 0 where
-  pub install : Install
-  pub made : Contains installs install
-  pub there : install.word ≡ word
-  pub left : held ≡ installed_word install.old (spot_of_install install)
-  pub spot : spot_of_install install ≡ spot_of (value_of held)
-  pub of : install.attempt.serial ≡ serial
-
--- where two steps met the same content with an odd count, a step between them on the status of the descriptor there
--- noted the serial of the attempt that had been installed so
-abbrev pub NotesBetween : Shape → List Install → (s t u : Step) → Type 0
-NotesBetween shape installs s t u = (word held : ℕ) → MeetsOdd shape word held s → MeetsOdd shape word held u
-    → t.word ≡ status_of_desc shape held
-    → (serial : ℕ) × NotesSerial serial t × WasInstalled installs word held serial
-
--- so it is of all steps of a segment
-pub record StatusesBracketed (m : Machine) : Type 0 where
-  pub standing : (pass : ℕ) (p : PassView) → IsAt m pass p → (earlier : List Step) (s : Step) (later : List Step)
-      → Contains (segments p) (earlier ++ s ∷ later)
-      → (t : Step) → Contains later t → NotesStanding (shape_of m) m.words s t
-  pub between : (pass : ℕ) (p : PassView) → IsAt m pass p
-      → (earlier : List Step) (s : Step) (middle : List Step) (u : Step) (later : List Step)
-      → Contains (segments p) (earlier ++ s ∷ (middle ++ u ∷ later)) → (t : Step) → Contains middle t → NotesBetween (shape_of m) m.installs s t u
+-- so it is of any two steps of a segment
+abbrev pub StatusesBracketed : Machine → Type 0
+StatusesBracketed m = (pass : ℕ) (p : PassView) → IsAt m pass p → (earlier : List Step) (s : Step) (later : List Step)
+    → Contains (segments p) (earlier ++ s ∷ later)
+    → (t : Step) → Contains later t → NotesStanding (shape_of m) m.words s t
