@@ -1,6 +1,6 @@
 -- Laws of counts: more acts count no less, and what two lists count bounds what both together do.
 use Rattle.std.specs.Prelude.{◌≡◌, ◌≤◌, ◌+◌, ℕ, Bool, true, false, cond, Option, Some, List, [], ◌∷◌, ◌++◌, length, ◌||◌, nat_eq}
-use Rattle.std.specs.List.{filter_map, list_any, count_by, sum_by}
+use Rattle.std.specs.List.{filter_map, list_any, count_by}
 use Rattle.std.specs.Cmp.{IsEquivalence}
 use Rattle.std.proofs.Common.{sym, ap, subst, ◌∙◌, arith, inl, inr}
 use Rattle.std.proofs.lemmas.Bool.{cases_Bool}
@@ -14,7 +14,7 @@ use Rattle.md_history.specs.declared.acts.Op.TheVariants.{Insert, Remove, Put}
 use Rattle.md_history.specs.declared.acts.Reply.{Reply}
 use Rattle.md_history.specs.declared.acts.Reply.TheVariants.{Value, Flag}
 use Rattle.md_history.specs.State.{State}
-use Rattle.md_history.specs.Counts.{Bounds, AllowAll, IsSmall, different_beside, different, same_key, named_key, changed_nothing, changed_key, asked_queue, changed_queue, dequeued, line_words, added, reads, writes, nodes, AreFew}
+use Rattle.md_history.specs.Counts.{Bounds, AllowAll, IsSmall, different_beside, different, same_key, named_key, changed_nothing, changed_key, looked_queue, changed_queue, met_end, added, reads, writes, nodes, AreFew}
 
 -- counts of acts that pass a test add up
 pub count-append : {A : Type 0} (p : A → Bool) (xs ys : List A) → count_by p (xs ++ ys) ≡ count_by p xs + count_by p ys
@@ -113,11 +113,8 @@ module _ (xs ys : List Act) where
   changed_nothing-append : count_by (λ (a : Act). changed_nothing a.op a.reply) (xs ++ ys) ≡ count_by (λ (a : Act). changed_nothing a.op a.reply) xs + count_by (λ (a : Act). changed_nothing a.op a.reply) ys
   changed_nothing-append = count-append (λ (a : Act). changed_nothing a.op a.reply) xs ys
 
-  dequeued-append : count_by (λ (a : Act). dequeued a.op a.reply) (xs ++ ys) ≡ count_by (λ (a : Act). dequeued a.op a.reply) xs + count_by (λ (a : Act). dequeued a.op a.reply) ys
-  dequeued-append = count-append (λ (a : Act). dequeued a.op a.reply) xs ys
-
-  pub line_words-append : sum_by (λ (a : Act). line_words a.op) (xs ++ ys) ≡ sum_by (λ (a : Act). line_words a.op) xs + sum_by (λ (a : Act). line_words a.op) ys
-  line_words-append = sum_by-append (λ (a : Act). line_words a.op) xs ys
+  met_end-append : count_by (λ (a : Act). met_end a.op a.reply) (xs ++ ys) ≡ count_by (λ (a : Act). met_end a.op a.reply) xs + count_by (λ (a : Act). met_end a.op a.reply) ys
+  met_end-append = count-append (λ (a : Act). met_end a.op a.reply) xs ys
 
   -- the nodes of two lists add up
   pub nodes-append : nodes (xs ++ ys) ≡ nodes xs + nodes ys
@@ -126,7 +123,7 @@ module _ (xs ys : List Act) where
   -- both together read and write no more than the one and then the other
   pub reads-append : reads (xs ++ ys) ≤ reads xs + reads ys
   reads-append =
-      omega (arith, changed_nothing-append, dequeued-append, line_words-append, named-append nat_eq (λ (a : Act). asked_queue a.op a.reply) xs ys nat_eq_equiv)
+      omega (arith, changed_nothing-append, met_end-append, named-append nat_eq (λ (a : Act). looked_queue a.op a.reply) xs ys nat_eq_equiv)
 
   pub writes-append : writes (xs ++ ys) ≤ writes xs + writes ys
   writes-append =
@@ -138,7 +135,7 @@ module _ (xs ys : List Act) where
 
   pub reads-prefix : reads xs ≤ reads (xs ++ ys)
   reads-prefix =
-      omega (arith, changed_nothing-append, dequeued-append, line_words-append, named-prefix nat_eq (λ (a : Act). asked_queue a.op a.reply) xs ys)
+      omega (arith, changed_nothing-append, met_end-append, named-prefix nat_eq (λ (a : Act). looked_queue a.op a.reply) xs ys)
 
   pub writes-prefix : writes xs ≤ writes (xs ++ ys)
   writes-prefix =

@@ -1,10 +1,10 @@
 -- How many words acts read and write, and how many nodes they take: a store's limits are told by these numbers.
-use Rattle.std.specs.Prelude.{ℕ, ◌+◌, ◌*◌, ◌≤◌, ◌==◌, ◌&&◌, nat_eq, Bool, true, false, if◌then◌else◌, List, [], ◌∷◌, Option, Some, None}
-use Rattle.std.specs.List.{filter_map, list_any, count_by, sum_by}
+use Rattle.std.specs.Prelude.{ℕ, ◌+◌, ◌*◌, ◌≤◌, ◌==◌, ◌&&◌, nat_eq, nat_lt, Bool, true, false, if◌then◌else◌, List, [], ◌∷◌, Option, Some, None}
+use Rattle.std.specs.List.{filter_map, list_any, count_by}
 use Rattle.md_history.specs.declared.acts.Op.{Op}
 use Rattle.md_history.specs.declared.acts.Op.TheVariants.{Get, Insert, Remove, Put, Enqueue, Dequeue, Front, Line}
 use Rattle.md_history.specs.declared.acts.Reply.{Reply}
-use Rattle.md_history.specs.declared.acts.Reply.TheVariants.{Value, Flag}
+use Rattle.md_history.specs.declared.acts.Reply.TheVariants.{Value, Flag, Line as TheLine}
 use Rattle.md_history.specs.declared.acts.Act.{Act}
 use Rattle.md_history.specs.State.{State, IsRight}
 
@@ -30,29 +30,25 @@ changed_key (Remove m k) (Value (Some v)) = Some (m, k)
 changed_key (Put m k v) r = Some (m, k)
 changed_key op r = None
 
--- the queue whose first values an operation asked for
-abbrev pub asked_queue : Op → Reply → Option ℕ
-asked_queue (Dequeue q) r = Some q
-asked_queue (Front q) r = Some q
-asked_queue (Line q n) r = Some q
-asked_queue op r = None
+-- the queue whose first values an operation looked at, and took none
+abbrev pub looked_queue : Op → Reply → Option ℕ
+looked_queue (Dequeue q) (Value None) = Some q
+looked_queue (Front q) r = Some q
+looked_queue (Line q n) r = Some q
+looked_queue op r = None
+
+-- an operation came to the end of its queue: there were fewer values than it asked for
+abbrev pub met_end : Op → Reply → Bool
+met_end (Dequeue q) (Value None) = true
+met_end (Front q) (Value None) = true
+met_end (Line q n) (TheLine l) = nat_lt l.count n
+met_end op r = false
 
 -- the queue that an operation changed
 abbrev pub changed_queue : Op → Reply → Option ℕ
 changed_queue (Enqueue q v) r = Some q
 changed_queue (Dequeue q) (Value (Some v)) = Some q
 changed_queue op r = None
-
--- a value was dequeued
-abbrev pub dequeued : Op → Reply → Bool
-dequeued (Dequeue q) (Value (Some v)) = true
-dequeued op r = false
-
--- the words that a line reads at most, besides the two of any look at its queue: one for each value asked for, and one
--- more
-abbrev pub line_words : Op → ℕ
-line_words (Line q n) = n + 1
-line_words op = 0
 
 -- a pair or a value was added, or a value was set
 abbrev pub added : Op → Reply → Bool
@@ -76,14 +72,13 @@ different eq xs = different_beside eq xs []
 abbrev pub same_key : ℕ × ℕ → ℕ × ℕ → Bool
 same_key a b = (a.0 == b.0) && (a.1 == b.1)
 
--- the words that acts read at most: one for each operation on a map that changed nothing; for each queue that was asked
--- for its first values two, and one more for each value that it gave away; and for each line of n values n + 1
+-- the words that acts read at most: one for each operation on a map that changed nothing; one for each queue that was
+-- looked at, its head; and one for each look that came to the end of its queue
 abbrev pub reads : List Act → ℕ
 reads acts =
     count_by (λ a. changed_nothing a.op a.reply) acts
-    + 2 * different nat_eq (filter_map (λ a. asked_queue a.op a.reply) acts)
-    + count_by (λ a. dequeued a.op a.reply) acts
-    + sum_by (λ a. line_words a.op) acts
+    + different nat_eq (filter_map (λ a. looked_queue a.op a.reply) acts)
+    + count_by (λ a. met_end a.op a.reply) acts
 
 -- the nodes that acts take: one for each pair or value that was added, and for each value that was set
 abbrev pub nodes : List Act → ℕ
@@ -121,6 +116,6 @@ pub record AllowAll (most more : Bounds) : Type 0 where
   pub writes : most.writes ≤ more.writes
   pub nodes : most.nodes ≤ more.nodes
 
--- bounds that so many calls keep to, if none of them looks at a line
+-- bounds that so many calls keep to
 abbrev pub bounds_of_calls : ℕ → Bounds
-bounds_of_calls n = record { reads = 4 * n; writes = 4 * n; nodes = n }
+bounds_of_calls n = record { reads = 2 * n; writes = 4 * n; nodes = n }

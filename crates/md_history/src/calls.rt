@@ -2,7 +2,7 @@
 
 ghost use Rattle.std.specs.Prelude.{◌≡◌, ◌<◌, ℕ, List, Option, IfOk, IfErr};
 ghost use Rattle.md_history.specs.declared.acts.Act.{Act};
-ghost use Rattle.md_history.specs.declared.acts.Op.TheVariants.{Get, Insert, Remove, Enqueue};
+ghost use Rattle.md_history.specs.declared.acts.Op.TheVariants.{Get, Insert, Remove, Put, Enqueue};
 ghost use Rattle.md_history.specs.declared.acts.Op.TheVariants.{Dequeue, Front};
 ghost use Rattle.md_history.specs.declared.acts.Reply.TheVariants.{Value, Flag, Nothing};
 ghost use Rattle.md_history.specs.Calls.{Refusal, Answered, Refused, IsLineLength};
@@ -57,6 +57,15 @@ pub trait TxCalls {
         ensures ok { IfOk result (λ v. Answered (Remove map key) (Value v)
             (acts self.old) (acts self.new) (stop self.old) (stop self.new)) }
         ensures err { IfErr result (λ e. Refused (Remove map key) e
+            (acts self.old) (acts self.new) (stop self.old) (stop self.new)) }
+        ensures kept { kept self.new ≡ kept self.old };
+
+    /// Sets a key's value, and returns the one that it had, or `None` if the key was absent.
+    fn put(&mut self, map: u32, key: u64, value: u64) -> Result<Option<u64>, Stop>
+        requires { map < maps (kept self.old) }
+        ensures ok { IfOk result (λ v. Answered (Put map key value) (Value v)
+            (acts self.old) (acts self.new) (stop self.old) (stop self.new)) }
+        ensures err { IfErr result (λ e. Refused (Put map key value) e
             (acts self.old) (acts self.new) (stop self.old) (stop self.new)) }
         ensures kept { kept self.new ≡ kept self.old };
 

@@ -102,6 +102,19 @@ impl TxCalls for PlainTx {
         Ok(value)
     }
 
+    fn put(&mut self, map: u32, key: u64, value: u64) -> Result<Option<u64>, Stop> {
+        if self.refused.is_some() {
+            return Err(Stop::NoMemory);
+        }
+        let op = Op::Put { map, key, value };
+        let Ok(before) = self.contents.put(map, key, value) else {
+            self.refused = Some(op);
+            return Err(Stop::NoMemory);
+        };
+        note(&mut self.acts, &mut self.refused, op, Reply::Value(before))?;
+        Ok(before)
+    }
+
     fn enqueue(&mut self, queue: u32, value: u64) -> Result<(), Stop> {
         if self.refused.is_some() {
             return Err(Stop::NoMemory);

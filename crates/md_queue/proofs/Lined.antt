@@ -1,6 +1,6 @@
 -- A line that is filled place by place, and what a look along a queue has done for it.
-use Rattle.std.proofs.Common.{◌≡◌, ◌<◌, ◌+◌, ◌-◌, ℕ, suc, List, [], ◌∷◌, ◌++◌, length, map, refl, sym, ap, ◌∙◌, set, append_assoc, arith}
-use Rattle.std.proofs.lemmas.List.{length-append, set_at}
+use Rattle.std.proofs.Common.{◌≡◌, ◌<◌, ◌≤◌, ◌+◌, ◌-◌, ℕ, suc, true, false, cond, nat_lt, List, [], ◌∷◌, ◌++◌, length, map, refl, sym, ap, ◌∙◌, set, append_assoc, lt-ltb, arith}
+use Rattle.std.proofs.lemmas.List.{length-append, length-map, set_at}
 use Rattle.std.specs.Prelude.{replicate}
 use Rattle.md_history.specs.declared.acts.Line.{Line}
 use Rattle.md_history.specs.declared.acts.TheConstants.{MAX_LINE}
@@ -11,7 +11,7 @@ use Rattle.md_nbtc_law.specs.Going.{IsGoing}
 use Rattle.md_nbtc_law.specs.State.{TxnState}
 use Rattle.md_queue_law.specs.QueueCertificates.{Seen}
 use Rattle.md_queue.specs.Along.{HasLooked}
-use Rattle.md_queue.specs.Operations.{GoesBy, RecordsAmong}
+use Rattle.md_queue.specs.Operations.{GoesBy, RecordsAmong, line_reads}
 use Rattle.md_queue.specs.Words.{head_at}
 
 -- the values of the nodes that were passed
@@ -42,3 +42,18 @@ line_more xs i v full below values is =
     ∙ set_at xs 0 zeros v i full ∙ sym (append_assoc xs (v ∷ []) zeros) in
     ap (λ ys. (let l : Line = record { count = i + 1; values = ys } in l)) filled
     ∙ ap (λ k. (let l : Line = record { count = k; values = (xs ++ v ∷ []) ++ replicate {A = ℕ} (MAX_LINE - k) 0 } in l)) (sym more)
+
+-- a line records the head at least
+pub reads_head : (n : ℕ) (line : Line) → 1 ≤ line_reads n line
+reads_head n line = elim (nat_lt line.count n) as (λ b. 1 ≤ cond b 2 1) [
+  | true ↦ omega arith
+  | false ↦ omega arith
+]
+
+-- and the end beside it, if it has fewer values
+pub reads_end : (n : ℕ) (line : Line) (seen : List Seen) → line ≡ line_of (values_of seen) → length seen < n → 2 ≤ line_reads n line
+reads_end n line seen is fewer =
+    let count = length-map seen (λ (s : Seen). s.value) in
+    let short = lt-ltb (length (values_of seen)) n (omega (arith, fewer, count)) in
+    let reads = ap (λ l. line_reads n l) is ∙ ap (λ b. cond b 2 1) short in
+    omega (arith, reads)

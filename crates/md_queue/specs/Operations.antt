@@ -1,5 +1,6 @@
 -- What the operations of a queue ask, and what they leave.
-use Rattle.std.specs.Prelude.{◌≡◌, ◌≢◌, ◌≤◌, ◌<◌, ◌+◌, ℕ, true, List, [], ◌∷◌, ◌++◌, ◌⊎◌, map, Contains, Option, Some, None, Result, Err, length}
+use Rattle.std.specs.Prelude.{◌≡◌, ◌≢◌, ◌≤◌, ◌<◌, ◌+◌, ℕ, true, List, [], ◌∷◌, ◌++◌, ◌⊎◌, map, Contains, Option, Some, None, Result, Err, length, nat_lt, if◌then◌else◌}
+use Rattle.md_history.specs.declared.acts.Line.{Line}
 use Rattle.md_history.specs.declared.acts.Op.{Op}
 use Rattle.md_history.specs.declared.acts.Reply.{Reply}
 use Rattle.md_history.specs.declared.stops.Limit.{Limit}
@@ -112,6 +113,10 @@ dequeue_reads None = 2
 abbrev pub dequeue_writes : Option ℕ → ℕ
 dequeue_writes (Some value) = 2
 dequeue_writes None = 0
+
+-- and how many a line of n values does, by how many it has
+abbrev pub line_reads : (n : ℕ) → Line → ℕ
+line_reads n line = if nat_lt line.count n then 2 else 1
 
 -- the tail, as the transaction saw it last, has another value
 abbrev pub TailDiffers : TxnState → (queue value : ℕ) → Type 0

@@ -10,7 +10,7 @@ ghost use Rattle.md_nbtc.specs.State.{state};
 ghost use Rattle.md_queue_law.specs.QueueCertificates.{Seen};
 ghost use Rattle.md_queue.specs.Along.{HasLooked, LooksFurther, end_reads, end_words};
 ghost use Rattle.md_queue.specs.Operations.{OperationAnswered, GoesBy, IsBegun, IsNotBy};
-ghost use Rattle.md_queue.specs.Operations.{RecordsAmong, RefusedOtherwise, StaysStopped};
+ghost use Rattle.md_queue.specs.Operations.{RecordsAmong, RefusedOtherwise, StaysStopped, line_reads};
 ghost use Rattle.md_queue.specs.Parts.{PassesHead};
 ghost use Rattle.md_queue.specs.Refusals.{AsksLine, RefusesNext, RefusesReads};
 
@@ -98,7 +98,7 @@ pub fn line<'a, T: HasQueues>(tx: &mut Txn<'a, T>, queue: u32, n: u8) -> Result<
     requires few { IsLineLength n }
     ensures pass { tx.new.pass.ghost_name ≡ tx.old.pass.ghost_name }
     ensures answer { IfOk result (λ line. OperationAnswered T.meaning (state tx.old) (state tx.new)
-        (LineOf queue n) (TheLine line) 2 0 0) }
+        (LineOf queue n) (TheLine line) (line_reads n line) 0 0) }
     ensures stop { IfErr result (RefusedOtherwise T.meaning (state tx.old) (state tx.new) 2 0) }
     ensures reads { IfErr result (RefusesReads T.meaning (state tx.old) (state tx.new)
         (AsksLine queue n)) }

@@ -8,7 +8,7 @@ use Rattle.std.proofs.lemmas.List.Concat.{flat_map-append}
 use Rattle.std.proofs.lemmas.List.Elements.{All-contains, All-head, All-tail, Contains-append_cases, Contains-append_left, Contains-append_right}
 use Rattle.md_words.specs.declared.shape.Shape.{Shape}
 use Rattle.md_words.specs.Place.{bucket_head, queue_head, queue_tail, node_next}
-use Rattle.md_words.specs.Layout.{address, bucket_of, IsNode}
+use Rattle.md_words.specs.Layout.{bucket_of, IsNode}
 use Rattle.md_words.proofs.Places.{address_differs}
 use Rattle.md_history.specs.declared.acts.Op.TheVariants.{Insert, Remove}
 use Rattle.md_history.specs.Counts.{named_key, changed_nothing, changed_key, changed_queue}
@@ -30,7 +30,6 @@ use Rattle.md_machine.proofs.lists.Rising.{here, in_cons, in_none}
 use Rattle.md_list_law.specs.Certificates.{IsRow, RecordsNode, RecordsPlace, get_none, get_some, insert_false, insert_true, key_fact, pair_fact, put_none, put_some, remove_none, remove_some}
 use Rattle.md_list_law.specs.ListShape.{head_word, next_word}
 use Rattle.md_list_law.proofs.Changing.{heap_after}
-use Rattle.md_queue_law.specs.QueueShape.{IsOf}
 use Rattle.md_queue_law.specs.QueueCertificates.{CertifiesOp}
 use Rattle.md_store_law.specs.Store.{IsStore, store}
 use Rattle.md_store_law.specs.Laws.Nodes.{placed_exist}
@@ -216,7 +215,7 @@ module _ (h : LogicalHeap) (valid : IsStore h) (by : Payers) (last : LogicalHeap
 
   -- a certificate past its tidy changes
   after_effect : (k : LogicalHeap) (done : List Change) → Reaches k done → (c : Certificate) → Stands k c → IsStore (after_certificate k c)
-      → KeepsFacts k (after_certificate k c) → store.certifies shape c → IsWithinEffect c → Effect shape by.Keys by.Queues (Unit {0}) k c
+      → KeepsFacts k (after_certificate k c) → store.certifies shape c → IsWithinEffect c → Effect shape by.Keys by.Queues k c
       → Reaches (after_certificate k c) (done ++ c.changes)
   after_effect k done r c stands valid_after facts_after certifies counted (still none no_node) =
       subst (λ ns. Reaches (heap_after k c.changes ns) (done ++ c.changes)) (sym no_node)
@@ -260,8 +259,8 @@ module _ (h : LogicalHeap) (valid : IsStore h) (by : Payers) (last : LogicalHeap
       let q = tidies_reach (read_before before c) (placed_nexts shape (before ++ c ∷ []))
       (record { words = read_noted mid first.valid mid_shape stands keeps_mid; nodes = new })
       c.tidy k (all_changes before) r tidies tidied keeps_mid charged in
-      let effect : Effect shape by.Keys by.Queues (Unit {0}) mid c = subst (λ s. Effect s by.Keys by.Queues (Unit {0}) mid c) mid_shape
-      (effect_of mid by.Keys by.Queues (Unit {0}) c stands within.keys within.queues (λ took. tt) is) in
+      let effect : Effect shape by.Keys by.Queues mid c = subst (λ s. Effect s by.Keys by.Queues mid c) mid_shape
+      (effect_of mid by.Keys by.Queues c stands within.keys within.queues is) in
       record {
         reached = subst (Reaches (after_whole k c)) (changes_more before c)
             (after_effect mid (all_changes before ++ changes_of_tidy c.tidy) q c stands follows.valid follows.facts certifies within effect);

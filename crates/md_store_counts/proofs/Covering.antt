@@ -126,18 +126,18 @@ module _ (h : LogicalHeap) (valid : IsStore h) (by : Payers) where
 
     -- what the change is, of the operation or before it
     abbrev IsDone : Type 0
-    IsDone = Does shape Keys Queues (Unit {0}) k c ⊎ (Tidies shape k c × IsPaid)
+    IsDone = Does shape Keys Queues k c ⊎ (Tidies shape k c × IsPaid)
 
     -- the next word of a placed node that is changed is that of a bucket's node, unmarked, or of the last node of a changed queue
     bucket_next : IsDone → (map bucket node : ℕ) → IsIn k (Bucket map bucket) node → c.word ≡ next node → is_marked (k.words.value c.word) ≡ false
     bucket_next is map bucket node at e = ⊎_elim does (λ t. tidies t.0) is
       where
-        does : Does shape Keys Queues (Unit {0}) k c → is_marked (k.words.value c.word) ≡ false
+        does : Does shape Keys Queues k c → is_marked (k.words.value c.word) ≡ false
         does (inserts m key is_map changed gap new) = gap.unmarked
         does (marks m key x is_map changed is_in key_is word plain) = ap is_marked old ∙ plain
         does (enqueues q last within changed of word zero) =
             absurd (not_both node map bucket q at (subst (λ n. IsOf k q n) (next_alone shape last node (exists last _ of) (exists node _ at) (sym word ∙ e)) of))
-        does (dequeues q within changed took word) =
+        does (dequeues q within changed word) =
             absurd (address_differs shape (queue_head q) (node_next node) within (exists node _ at) (λ x. cc x) (sym word ∙ e))
 
         tidies : Tidies shape k c → is_marked (k.words.value c.word) ≡ false
@@ -160,7 +160,7 @@ module _ (h : LogicalHeap) (valid : IsStore h) (by : Payers) where
     marking : IsDone → (map bucket node : ℕ) → IsIn k (Bucket map bucket) node → c.word ≡ next node → is_marked c.new ≡ true → Keys map (k.words.key_of node)
     marking is map bucket node at e new = ⊎_elim does (λ t. tidies t.0) is
       where
-        does : Does shape Keys Queues (Unit {0}) k c → Keys map (k.words.key_of node)
+        does : Does shape Keys Queues k c → Keys map (k.words.key_of node)
         does (inserts m key is_map changed gap plain) = absurd (both_ways (is_marked c.new) plain new)
         does (marks m key x is_map changed is_in key_is word plain) =
             let same : x ≡ node = next_alone shape x node (exists x _ is_in) (exists node _ at) (sym word ∙ e) in
@@ -169,7 +169,7 @@ module _ (h : LogicalHeap) (valid : IsStore h) (by : Payers) where
             subst (λ n. Keys map (k.words.key_of n)) same (subst (Keys map) (sym key_is) (subst (λ n. Keys n key) m_is changed))
         does (enqueues q last within changed of word zero) =
             absurd (not_both node map bucket q at (subst (λ n. IsOf k q n) (next_alone shape last node (exists last _ of) (exists node _ at) (sym word ∙ e)) of))
-        does (dequeues q within changed took word) =
+        does (dequeues q within changed word) =
             absurd (address_differs shape (queue_head q) (node_next node) within (exists node _ at) (λ x. cc x) (sym word ∙ e))
 
         tidies : Tidies shape k c → Keys map (k.words.key_of node)
@@ -181,7 +181,7 @@ module _ (h : LogicalHeap) (valid : IsStore h) (by : Payers) where
     queueing : IsDone → (queue node : ℕ) → IsOf k queue node → c.word ≡ next node → Queues queue
     queueing is queue node at e = ⊎_elim does (λ t. tidies t.0) is
       where
-        does : Does shape Keys Queues (Unit {0}) k c → Queues queue
+        does : Does shape Keys Queues k c → Queues queue
         does (inserts m key is_map changed gap plain) = absurd (bucket_word_apart m (bucket_of shape key) queue node is_map (bucket_of_below shape key)
             (⊎_elim inl (λ t. inr (t.0, t.1, t.3)) gap.after) at e)
         does (marks m key x is_map changed is_in key_is word plain) = absurd (bucket_word_apart m (bucket_of shape key) queue node is_map (bucket_of_below shape key) (inr (x, is_in, word)) at e)
@@ -190,7 +190,7 @@ module _ (h : LogicalHeap) (valid : IsStore h) (by : Payers) where
             let s : Queue q ≡ Queue queue = one_structure node _ _ (subst (λ n. IsOf k q n) same of) at in
             let q_is : q ≡ queue = cc s in
             subst Queues q_is changed
-        does (dequeues q within changed took word) =
+        does (dequeues q within changed word) =
             absurd (address_differs shape (queue_head q) (node_next node) within (exists node _ at) (λ x. cc x) (sym word ∙ e))
 
         tidies : Tidies shape k c → Queues queue
@@ -357,11 +357,11 @@ module _ (h : LogicalHeap) (valid : IsStore h) (by : Payers) where
       cover_first : IsDone → Covered c.word
       cover_first is = ⊎_elim does (λ t. ⊎_elim (λ covered. covered) (tidies t.0) t.1) is
         where
-          does : Does shape Keys Queues (Unit {0}) k c → Covered c.word
+          does : Does shape Keys Queues k c → Covered c.word
           does (inserts m key is_map changed gap plain) = at_place m key changed (place_was m key is_map gap)
           does (marks m key x is_map changed is_in key_is word plain) = at_key m key (by.named m key changed) (key_was m key x is_map is_in key_is word plain)
           does (enqueues q last within changed of word zero) = cover_enqueue q last within changed of word zero
-          does (dequeues q within changed took word) = at_head q changed word
+          does (dequeues q within changed word) = at_head q changed word
 
           tidies : Tidies shape k c → Contains (words_of_changes done) (next (linked_node c.old)) → Covered c.word
           tidies (unlinks m b y u) passed = cover_unlink m b y u (subst (λ n. Contains (words_of_changes done) (next n)) (ap linked_node u.old ∙ linked_node-link_value y false) passed)

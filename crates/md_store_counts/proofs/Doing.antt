@@ -10,7 +10,7 @@ use Rattle.md_words.specs.Layout.{address, bucket_of, IsNode}
 use Rattle.md_words.proofs.Words.{is_marked-link_value}
 use Rattle.md_history.specs.declared.acts.Op.{Op}
 use Rattle.md_history.specs.declared.acts.Op.TheVariants.{Get, Insert, Remove, Put, Enqueue, Dequeue, Front, Line}
-use Rattle.md_history.specs.Counts.{changed_key, changed_queue, dequeued}
+use Rattle.md_history.specs.Counts.{changed_key, changed_queue}
 use Rattle.md_machine.specs.declared.certificate.Certificate.{Certificate}
 use Rattle.md_machine.specs.declared.certificate.Change.{Change}
 use Rattle.md_machine.specs.declared.certificate.Fact.{Fact}
@@ -59,14 +59,14 @@ pub data Tidies (shape : Shape) (k : LogicalHeap) (c : Change) : Type 0 where
   unlinks : (map bucket node : ℕ) → Unlinked shape k map bucket node c → Tidies shape k c
   moves : (queue from : ℕ) → queue < shape.queues → c.word ≡ address shape (queue_tail queue) → IsOf k queue from → c.old ≡ link from → Tidies shape k c
 
-module _ (shape : Shape) (Keys : ℕ → ℕ → Type 0) (Queues : ℕ → Type 0) (Took : Type 0) (k : LogicalHeap) where
+module _ (shape : Shape) (Keys : ℕ → ℕ → Type 0) (Queues : ℕ → Type 0) (k : LogicalHeap) where
   -- what an operation's change is, of a key or a queue that is among the changed ones
   pub data Does (c : Change) : Type 0 where
     inserts : (map key : ℕ) → map < shape.maps → Keys map key → Gap shape k map key c.word → is_marked c.new ≡ false → Does c
     marks : (map key node : ℕ) → map < shape.maps → Keys map key → IsIn k (Bucket map (bucket_of shape key)) node → k.words.key_of node ≡ key
         → c.word ≡ next_word shape node → is_marked c.old ≡ false → Does c
     enqueues : (queue last : ℕ) → queue < shape.queues → Queues queue → IsOf k queue last → c.word ≡ next_word shape last → c.old ≡ 0 → Does c
-    dequeues : (queue : ℕ) → queue < shape.queues → Queues queue → Took → c.word ≡ address shape (queue_head queue) → Does c
+    dequeues : (queue : ℕ) → queue < shape.queues → Queues queue → c.word ≡ address shape (queue_head queue) → Does c
 
   -- what a certificate does beside its tidy changes: nothing, or one change
   pub data Effect (c : Certificate) : Type 0 where
@@ -92,10 +92,9 @@ module _ (k : LogicalHeap) where
         is.before);
   }
 
-  module _ (Keys : ℕ → ℕ → Type 0) (Queues : ℕ → Type 0) (Took : Type 0) (c : Certificate) (stands : Stands k c)
+  module _ (Keys : ℕ → ℕ → Type 0) (Queues : ℕ → Type 0) (c : Certificate) (stands : Stands k c)
       (keys : (map key : ℕ) → changed_key c.op c.reply ≡ Some (map, key) → Keys map key)
-      (queues : (queue : ℕ) → changed_queue c.op c.reply ≡ Some queue → Queues queue)
-      (took : dequeued c.op c.reply ≡ true → Took) where
+      (queues : (queue : ℕ) → changed_queue c.op c.reply ≡ Some queue → Queues queue) where
     abbrev here_shape : Shape
     here_shape = k.words.shape
 
@@ -104,7 +103,7 @@ module _ (k : LogicalHeap) where
     old_of change e = All-contains (λ (x : Change). k.words.value x.word ≡ x.old) c.changes change stands.old (subst (λ l. Contains l change) (sym e) (here change []))
 
     place_effect : (map key value : ℕ) → map < here_shape.maps → changed_key c.op c.reply ≡ Some (map, key)
-        → PlacesNode here_shape (Bucket map (bucket_of here_shape key)) (head_word here_shape map (bucket_of here_shape key)) c key value → Effect here_shape Keys Queues Took k c
+        → PlacesNode here_shape (Bucket map (bucket_of here_shape key)) (head_word here_shape map (bucket_of here_shape key)) c key value → Effect here_shape Keys Queues k c
     place_effect map key value m changed is =
         let change : Change = record { word = is.word; old = is.old; new = link_value is.node false } in
         changes change is.changes (inserts map key m (keys map key changed)
@@ -112,7 +111,7 @@ module _ (k : LogicalHeap) where
         (is_marked-link_value is.node false))
 
     row_effect : (map key : ℕ) → map < here_shape.maps → IsRow here_shape (Bucket map (bucket_of here_shape key)) (head_word here_shape map (bucket_of here_shape key)) map key c
-        → Effect here_shape Keys Queues Took k c
+        → Effect here_shape Keys Queues k c
     row_effect map key m (get_some node value op reply is r) = still is.changes is.nodes
     row_effect map key m (get_none op reply is r) = still is.changes is.nodes
     row_effect map key m (insert_false node value op reply is r) = still is.changes is.nodes
@@ -131,13 +130,12 @@ module _ (k : LogicalHeap) where
         (keys map key (ap (λ o. changed_key o c.reply) op ∙ ap (changed_key (Remove map key)) reply))
         f.placed f.key refl is.unmarked)
 
-    queue_effect : (op : Op) → c.op ≡ op → CertifiesOp here_shape op c → Effect here_shape Keys Queues Took k c
+    queue_effect : (op : Op) → c.op ≡ op → CertifiesOp here_shape op c → Effect here_shape Keys Queues k c
     queue_effect (Enqueue q v) e (within, is) =
         let f = All-contains (Holds k) c.facts (has_key q is.last is.rank) stands.facts (subst (λ l. Contains l (has_key q is.last is.rank)) (sym is.facts) (here (has_key q is.last is.rank) [])) in
         changes (next_change here_shape is.last 0 (link is.node)) is.changes (enqueues q is.last within (queues q (ap (λ o. changed_queue o c.reply) e)) f.placed refl refl)
     queue_effect (Dequeue q) e (within, is) = ⊎_elim
-        (λ d. changes (head_change here_shape q (link d.dummy) (link d.first)) d.changes (dequeues q within (queues q (ap (λ o. changed_queue o c.reply) e ∙ ap (changed_queue (Dequeue q)) d.reply))
-        (took (ap (λ o. dequeued o c.reply) e ∙ ap (dequeued (Dequeue q)) d.reply)) refl))
+        (λ d. changes (head_change here_shape q (link d.dummy) (link d.first)) d.changes (dequeues q within (queues q (ap (λ o. changed_queue o c.reply) e ∙ ap (changed_queue (Dequeue q)) d.reply)) refl))
         (λ n. still n.changes n.nodes)
         is
     queue_effect (Front q) e (within, is) = ⊎_elim (λ d. still d.changes d.nodes) (λ n. still n.changes n.nodes) is
@@ -147,7 +145,7 @@ module _ (k : LogicalHeap) where
     queue_effect (Remove m key) e is = absurd is
     queue_effect (Put m key v) e is = absurd is
 
-    pub effect_of : store.certifies here_shape c → Effect here_shape Keys Queues Took k c
+    pub effect_of : store.certifies here_shape c → Effect here_shape Keys Queues k c
     effect_of certifies = ⊎_elim (λ t. row_effect t.0 t.1 t.2 t.3.row) (queue_effect c.op refl) certifies
 
   pub tidies_of : (t : TidyChange) → store.tidies k.words.shape t → TidyStands k t → Tidies k.words.shape k t.change

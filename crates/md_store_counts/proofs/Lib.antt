@@ -8,7 +8,6 @@ pub mod Charges
 pub mod Covering
 pub mod Chaining
 pub mod Recording
-pub mod Fronts
 pub mod Writing
 pub mod Appending
 pub mod RowsHold

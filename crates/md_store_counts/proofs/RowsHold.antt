@@ -1,5 +1,5 @@
 -- The worked certificates are some.
-use Rattle.std.proofs.Common.{◌≡◌, [], ◌∷◌, None, refl, lit≤, inl, inr, ⊎_elim, arith}
+use Rattle.std.proofs.Common.{◌≡◌, [], ◌∷◌, None, refl, lit≤, inl, inr, arith}
 use Rattle.std.specs.List.{All}
 use Rattle.std.proofs.lemmas.List.Elements.{All-nil, All-cons, All-from_recursion}
 use Rattle.md_words.specs.Link.{link_value, linked_node, is_marked}
@@ -9,7 +9,7 @@ use Rattle.md_machine.specs.declared.certificate.NewNode.{NewNode}
 use Rattle.md_machine.specs.LogicalHeap.{Holds}
 use Rattle.md_machine.specs.Meaning.{Stands, TidyStands, after_certificate, after_tidy}
 use Rattle.md_machine.proofs.chain.Follow.{wholes_follow}
-use Rattle.md_machine.proofs.lists.Rising.{here, in_cons, in_none, there}
+use Rattle.md_machine.proofs.lists.Rising.{here, in_none, there}
 use Rattle.md_list_law.specs.Certificates.{IsUnlink, get_none, insert_true, key_fact, next_fact, node_fact, remove_some}
 use Rattle.md_list_law.specs.OneList.{the_head, the_list}
 use Rattle.md_list_law.specs.Rows.{empty_list, get_4, insert_3, insert_4, insert_5, list_shape, remove_3, unlink_3, without_3}

@@ -12,11 +12,11 @@ use Rattle.md_nbtc_law.proofs.structures.NodesKnown.{shape_later}
 use Rattle.md_nbtc.specs.State.{state}
 use Rattle.md_queue_law.specs.QueueCertificates.{Seen}
 use Rattle.md_queue.specs.Along.{LooksFurther, end_reads, end_words, seen_as}
-use Rattle.md_queue.specs.Operations.{GoesBy, RecordsAmong, RefusedOtherwise}
+use Rattle.md_queue.specs.Operations.{GoesBy, RecordsAmong, RefusedOtherwise, line_reads}
 use Rattle.md_queue.specs.Words.{head_at, next_at}
 use Rattle.md_queue.proofs.Along.{looked_enough, looked_to_end}
 use Rattle.md_queue.proofs.Among.{AnswersBy, among_then, among_to, answered}
-use Rattle.md_queue.proofs.Lined.{line_more, values_of}
+use Rattle.md_queue.proofs.Lined.{line_more, reads_end, reads_head, values_of}
 use Rattle.md_queue.proofs.Steps.{goes_then, goes_up, refused_then, refused_up}
 use Rattle.std.proofs.Common.{◌≤◌}
 use Rattle.md_queue.proofs.Refusing.{began_on, line_asks, if_err, stays_on}
@@ -84,7 +84,7 @@ returns-after-loop-i-clause-answer g c =
     = λ cs going. subst (λ k. AnswersBy M t cs (LineOf c.args.queue k) (TheLine c.loop-i.line) words) all
     (subst (λ l. AnswersBy M t cs (LineOf c.args.queue (length h.seen)) (TheLine l) words) (sym h.is)
     (looked_enough M g.T.Theory.lawful g.met.T.HasQueues.has_queues t c.args.queue cs h.dummy c.loop-i.node h.seen (h.looked cs going))) in
-    answered words (goes_up M (state c.args.tx.now) t 1 0 0 2 0 0 h.goes (omega arith) (omega arith) (omega arith)) by h.among
+    answered words (goes_up M (state c.args.tx.now) t 1 0 0 (line_reads c.args.n c.loop-i.line) 0 0 h.goes (reads_head c.args.n c.loop-i.line) (omega arith) (omega arith)) by h.among
 
 pub returns-in_default-clause-answer : goal.returns-in_default-clause-answer
 returns-in_default-clause-answer g c =
@@ -101,7 +101,7 @@ returns-in_default-clause-answer g c =
     = λ cs going. subst (LooksFurther M u c.args.queue cs h.dummy node h.seen) c.in_default.is (c.in_ok-passed.ensures.further c.args.queue cs h.dummy h.seen (h.looked cs going)) in
     let words = head_at u c.args.queue ∷ next_at u node ∷ [] in
     answered words
-    (goes_then M s t u 1 0 0 1 0 0 2 0 0 h.goes (λ _. goes) (omega arith) (omega arith) (omega arith))
+    (goes_then M s t u 1 0 0 1 0 0 (line_reads c.args.n c.loop-i.line) 0 0 h.goes (λ _. goes) (reads_end c.args.n c.loop-i.line h.seen h.is fewer) (omega arith) (omega arith))
     (λ cs going. subst (λ l. AnswersBy M u cs (LineOf c.args.queue c.args.n) (TheLine l) words) (sym h.is)
     (looked_to_end M g.T.Theory.lawful g.met.T.HasQueues.has_queues u c.args.queue cs h.dummy node h.seen (end cs going) c.args.n fewer))
     (subst (λ (x : Shape). RecordsAmong s u (address x (queue_head c.args.queue) ∷ address x (node_next node) ∷ [])) (sym (shape_later t u goes.leaves.on.later))

@@ -1,4 +1,4 @@
-use Rattle.md_store_counts.proofs.Fronts.{recorded_are_few}
+use Rattle.md_store_counts.proofs.Recording.{recorded_are_few}
 use Rattle.md_store_counts.proofs.Placing.{placed_are_counted}
 use Rattle.md_store_counts.proofs.Writing.{tidied_are_few, written_are_few}
 use Rattle.md_store_counts.proofs.counts.certificates_are_few.Goals as goal
