@@ -1,10 +1,10 @@
 //! Rounds whose replies are kept in lists, by caller and line.
 
-ghost use Rattle.std.specs.Prelude.{◌≡◌, ◌≢◌, ◌≤◌, ◌++◌, ℕ, [], length, map, replicate, option_map};
+ghost use Rattle.std.specs.Prelude.{◌≡◌, ◌≢◌, ◌≤◌, ◌+◌, ◌++◌, ℕ, [], length, map, replicate, option_map};
 ghost use Rattle.std.specs.Prelude.{IfOk, OnOk};
 ghost use Rattle.md_many.specs.Tags.{IsInterleaving};
 ghost use Rattle.md_many.specs.Laws.{AllSuit, AreLawful, law_of};
-ghost use Rattle.md_many_attempts.specs.ByCaller.{at_caller, HasList, lists_in, line_at};
+ghost use Rattle.md_many_attempts.specs.ByCaller.{at_caller, HasList, lists_in, line_at, lines_of};
 ghost use Rattle.md_many_attempts.specs.Meaning.{meaning_of};
 ghost use Rattle.md_many.specs.Course.{CanPlay};
 ghost use Rattle.md_many.specs.Played.{EachLineOnce, IsToldOfEach, committed_of, tags_of};
@@ -124,6 +124,8 @@ where
     ensures serial { IfOk result (λ m. IsSerialRun (meaning_of L.B.Body L.Lines lines.now)
         (line_at (lists_in m.replies.items)) (L.opening lines.now)
         (committed_of (map E.front m.fronts.items)) m.contents) }
+    ensures fronts { IfOk result (λ m. length m.fronts.items
+        ≤ lines_of (L.line_count lines.now) (L.caller_count lines.now) + 1) }
 {
     let mut keeper = ByCaller {
         lists: empty_lists(alloc, lines.callers())?,

@@ -1,6 +1,6 @@
 //! Rounds of lines whose bodies are lawful, whatever lines they are.
 
-ghost use Rattle.std.specs.Prelude.{◌+◌, ◌*◌, map, IfOk, OnOk, IsSome};
+ghost use Rattle.std.specs.Prelude.{◌≤◌, ◌+◌, ◌*◌, length, map, IfOk, OnOk, IsSome};
 ghost use Rattle.md_history.specs.State.{HaveSameNumbers};
 ghost use Rattle.md_history.specs.Engine.{needed};
 ghost use Rattle.md_many_attempts.specs.ByCaller.{HasList, line_at, lines_of, lists_in};
@@ -109,6 +109,8 @@ where
         (line_at (lists_in m.replies.items)) (E.start engine)
         (committed_of (map E.front m.fronts.items)) m.contents) }
     ensures numbers { IfOk result (λ m. HaveSameNumbers m.contents (E.start engine)) }
+    ensures fronts { IfOk result (λ m. length m.fronts.items
+        ≤ lines_of (L.line_count lines.now) (L.caller_count lines.now) + 1) }
 {
     let over = LinesOver {
         lines,

@@ -1,19 +1,24 @@
 -- One attempt more of a batch.
-use Rattle.std.proofs.Common.{◌≡◌, ◌+◌, ◌*◌, ◌<◌, ◌≤◌, ℕ, Option, Some, None, Result, Ok, Err, List, [], arith, sym, ◌∙◌, subst, inl, inr}
+use Rattle.std.proofs.Common.{◌≡◌, ◌+◌, ◌*◌, ◌<◌, ◌≤◌, ℕ, Option, Some, None, Result, Ok, Err, List, [], ◌∷◌, ◌++◌, length, arith, refl, sym, ap, ◌∙◌, subst, inl, inr}
 use Rattle.std.specs.Prelude.{IfSome, IfNone, OnErr}
 use Rattle.std.proofs.lemmas.Bool.{cases_eq}
+use Rattle.std.proofs.lemmas.List.{length_push}
 use Rattle.md_history.specs.declared.engines.Engine.{Ghosts as EngineWords}
+use Rattle.md_history.specs.declared.stops.Shown.{Shown}
 use Rattle.md_history.specs.declared.stops.Stop.{Stop}
-use Rattle.md_history.specs.declared.stops.Stop.TheVariants.{NoMemory}
-use Rattle.md_history.specs.Attempt.{CountsStop}
+use Rattle.md_history.specs.declared.stops.Stop.TheVariants.{Conflict, NoMemory}
+use Rattle.md_history.specs.Attempt.{Stops}
 use Rattle.md_many_attempts.specs.declared.attempts.Turn.{Turn}
 use Rattle.md_many_attempts.specs.declared.attempts.End.{End}
 use Rattle.md_many_attempts.specs.declared.attempts.End.TheVariants.{Lines, Attempts, Limit, Conflicts}
 use Rattle.md_many_attempts.specs.declared.attempts.TheConstants.{MOST_CONFLICTS}
-use Rattle.md_many_attempts.specs.Batches.{HasInRow, EndsPart}
+use Rattle.md_many_attempts.specs.Batches.{BatchEndsBy, HasTriedSince}
 use Rattle.md_many_attempts.specs.Lines.{PlaysLines}
 use Rattle.md_many_attempts.specs.Meaning.{Meaning}
-use Rattle.md_many_attempts.specs.Steps.{EndsOn}
+use Rattle.md_many_attempts.specs.Steps.{EndsOn, StopsAt}
+use Rattle.md_many_attempts.specs.Tags.{tag_of}
+use Rattle.md_many_attempts.specs.Turns.{StopsByConflict, stretch}
+use Rattle.md_many_attempts.proofs.Ending.{conflicts-more}
 use Rattle.md_many_attempts.proofs.Retrying.{no_conflict, no_limit, conflict_counted}
 
 -- what is so of each line up to one, and of the next
@@ -59,7 +64,7 @@ pub record HasTried (count done before lines conflicts tried first last : ℕ) :
   pub counted : last ≡ first + tried
 
 module _ (count done before lines conflicts tried first last lines' conflicts' last' : ℕ) (few : lines ≤ tried)
-    (calm : conflicts < MOST_CONFLICTS) (most : before + tried ≤ MOST_CONFLICTS * lines + conflicts)
+    (below : conflicts < MOST_CONFLICTS) (most : before + tried ≤ MOST_CONFLICTS * lines + conflicts)
     (counted : last ≡ first + tried) where
   -- after an attempt that played the next line
   pub tried-line : last' ≡ last + 1 → lines' ≡ lines + 1 → conflicts' ≡ 0 → done + lines < count
@@ -81,41 +86,67 @@ module _ (count done before lines conflicts tried first last lines' conflicts' l
     counted = omega arith;
   }
 
-module _ {E P B R : Type 0} (e : EngineWords E P) (engine : E) (m : Meaning B R) (part : Turn) (before : ℕ)
+-- an attempt at the line after so many met a conflict
+pub by-conflict : {E P B R : Type 0} (e : EngineWords E P) (engine : E) (m : Meaning B R) (turn : Turn) (old new : P)
+    (played : ℕ) (s : Stop) (line : ℕ) (shown : Shown) → s ≡ Conflict shown → line ≡ turn.done + played + 1
+    → StopsAt e engine m (record { caller = turn.caller; line = line }) old new s
+    → StopsByConflict e engine (tag_of turn.caller (turn.done + played + 1)) old new
+by-conflict e engine m turn old new played s line shown met at stopped = record {
+  shown = shown;
+  may = subst (e.may_stop engine) met stopped.may;
+  stops = subst (λ l. Stops (tag_of turn.caller l) (e.front old) (e.front new)) at stopped.stops;
+  begun = conflict_counted s _ _ met stopped.counted;
+}
+
+module _ {E P B R : Type 0} (e : EngineWords E P) (engine : E) (m : Meaning B R) (turn : Turn) (before : ℕ)
     (old : P) where
   -- no attempt was made yet
-  pub row-none : (replies : List R) → replies ≡ [] → HasInRow e engine m part before old old replies before
-  row-none replies none = inl (none, omega arith)
+  pub row-none : (replies : List R) → replies ≡ [] → HasTriedSince (stretch e engine m turn old old replies) before before
+  row-none replies none = inl (record { none = none; after = []; count = omega arith; each = refl })
 
   -- an attempt more met a conflict
   pub row-more : (was new : P) (replies : List R) (conflicts conflicts' : ℕ)
-      → HasInRow e engine m part before old was replies conflicts → e.begun new ≡ e.begun was + 1
-      → conflicts' ≡ conflicts + 1 → HasInRow e engine m part before old new replies conflicts'
+      → HasTriedSince (stretch e engine m turn old was replies) before conflicts
+      → StopsByConflict e engine (tag_of turn.caller (turn.done + length replies + 1)) was new
+      → conflicts' ≡ conflicts + 1 → HasTriedSince (stretch e engine m turn old new replies) before conflicts'
   row-more was new replies conflicts conflicts' row one more = elim row [
-    | inl none ↦ inl (none.0, omega (arith, none.1, one, more))
+    | inl none ↦
+        let line : turn.done + length replies + 1 ≡ turn.done + 1 = omega (arith, ap length none.none) in
+        inl (record {
+          none = none.none;
+          after = none.after ++ new ∷ [];
+          count = omega (arith, length_push none.after new, none.count, more);
+          each = conflicts-more e engine (tag_of turn.caller (turn.done + 1)) old none.after was new none.each
+              (subst (λ l. StopsByConflict e engine (tag_of turn.caller l) was new) line one);
+        })
     | inr some ↦ inr (record {
       point = some.point;
       of = some.of;
       played = some.played;
-      since = omega (arith, some.since, one, more);
+      after = some.after ++ new ∷ [];
+      count = omega (arith, length_push some.after new, some.count, more);
+      each = conflicts-more e engine (tag_of turn.caller (turn.done + length replies + 1)) some.point some.after was new
+          some.each one;
     })
   ]
 
   -- an attempt played a line
   pub row-anew : (new : P) (replies : List R) (conflicts : ℕ) → e.of engine new
-      → PlaysLines m part.caller part.done (e.front old).lanes (e.front old) (e.front new) replies
-      → conflicts ≡ 0 → HasInRow e engine m part before old new replies conflicts
+      → PlaysLines m turn.caller turn.done (e.front old).lanes (e.front old) (e.front new) replies
+      → conflicts ≡ 0 → HasTriedSince (stretch e engine m turn old new replies) before conflicts
   row-anew new replies conflicts of played none =
-      inr (record { point = new; of = of; played = played; since = omega (arith, none) })
+      inr (record { point = new; of = of; played = played; after = []; count = sym none; each = refl })
 
   -- a stop that ends a batch
-  pub ends-on : (was new : P) (replies : List R) (s : Stop) (end : End) (after conflicts : ℕ)
-      → HasInRow e engine m part before old was replies conflicts → EndsOn s conflicts end → e.may_stop engine s
-      → CountsStop s (e.begun was) (e.begun new) → EndsPart e engine m part before old new replies end after
-  ends-on was new replies s Lines after conflicts row on may more = absurd on
-  ends-on was new replies s Attempts after conflicts row on may more = absurd on
-  ends-on was new replies s (Limit limit) after conflicts row on may more = subst (e.may_stop engine) on may
-  ends-on was new replies s Conflicts after conflicts row on may more = (
-    row-more was new replies conflicts MOST_CONFLICTS row (conflict_counted s _ _ on.0.1 more) (sym on.1),
-    (_, subst (e.may_stop engine) on.0.1 may),
-  )
+  pub ends-on : (was new : P) (replies : List R) (s : Stop) (end : End) (after conflicts line : ℕ)
+      → HasTriedSince (stretch e engine m turn old was replies) before conflicts → EndsOn s conflicts end
+      → line ≡ turn.done + length replies + 1
+      → StopsAt e engine m (record { caller = turn.caller; line = line }) was new s
+      → BatchEndsBy (stretch e engine m turn old new replies) before end after
+  ends-on was new replies s Lines after conflicts line row on at stopped = absurd on
+  ends-on was new replies s Attempts after conflicts line row on at stopped = absurd on
+  ends-on was new replies s (Limit limit) after conflicts line row on at stopped =
+      subst (e.may_stop engine) on stopped.may
+  ends-on was new replies s Conflicts after conflicts line row on at stopped =
+      row-more was new replies conflicts MOST_CONFLICTS row
+      (by-conflict e engine m turn was new (length replies) s line on.0.0 on.0.1 at stopped) (sym on.1)

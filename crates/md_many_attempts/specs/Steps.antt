@@ -46,7 +46,7 @@ pub record IsAnotherConflict (s : Stop) (conflicts conflicts' : ℕ) : Type 0 wh
   pub shown : Shown
   pub met : s ≡ stop.Conflict shown
   pub more : conflicts' ≡ conflicts + 1
-  pub calm : conflicts' < MOST_CONFLICTS
+  pub few : conflicts' < MOST_CONFLICTS
 
 -- a stop after so many conflicts in a row ends the turn, for this reason
 abbrev pub EndsOn : Stop → ℕ → End → Type 0

@@ -1,10 +1,11 @@
 -- A caller's turn: what it asks for, what it leaves, and when it ends.
-use Rattle.std.specs.Prelude.{◌≡◌, ◌<◌, ◌≤◌, ◌+◌, ◌-◌, ◌*◌, ◌^◌, ℕ, min, List, [], length, Vec, vec_capacity, Result, IfOk, OnErr}
+use Rattle.std.specs.Prelude.{◌≡◌, ◌<◌, ◌≤◌, ◌+◌, ◌-◌, ◌*◌, ◌^◌, ℕ, min, List, [], ◌∷◌, length, Vec, vec_capacity, Result, IfOk, OnErr}
 use Rattle.std.specs.declared.alloc.AllocError.{AllocError}
 use Rattle.std.specs.declared.alloc.Global.{Global}
 use Rattle.md_history.specs.declared.engines.Engine.{Ghosts as EngineWords}
 use Rattle.md_history.specs.declared.stops.Shown.{Shown}
 use Rattle.md_history.specs.declared.stops.Stop.TheVariants as stop
+use Rattle.md_history.specs.Attempt.{Stops}
 use Rattle.md_history.specs.State.{State}
 use Rattle.md_history.specs.Engine.{bounds_in}
 use Rattle.md_many_attempts.specs.declared.attempts.Turn.{Turn}
@@ -14,6 +15,7 @@ use Rattle.md_many_attempts.specs.declared.attempts.TheConstants.{MOST_CONFLICTS
 use Rattle.md_many_attempts.specs.Joined.{entries_after}
 use Rattle.md_many_attempts.specs.Lines.{AreFitting, IsSmallLine, PlaysLines, StopsForMemory}
 use Rattle.md_many_attempts.specs.Meaning.{Meaning}
+use Rattle.md_many_attempts.specs.Tags.{tag_of}
 
 -- the most lines that a caller can play in a turn
 abbrev pub most_lines : {B R : Type 0} → Meaning B R → Turn → ℕ
@@ -41,7 +43,7 @@ pub record HoldsAsBefore {E P : Type 0} (e : EngineWords E P) (engine : E) (old 
 pub record IsWithinAttempts (turn : Turn) (played begun begun' : ℕ) : Type 0 where
   pub each : begun + played ≤ begun'
   pub most : begun' ≤ begun + turn.attempts
-  pub calm : begun' ≤ begun + MOST_CONFLICTS * (played + 1)
+  pub few : begun' ≤ begun + MOST_CONFLICTS * (played + 1)
 
 -- From one state of a pass to another a turn was played, with these replies: the lanes committed the caller's next
 -- lines, and no more than there are; they made no more attempts than the turn has; and the gate was told of each line.
@@ -63,26 +65,62 @@ pub record PlaysEnough {E P B R : Type 0} (e : EngineWords E P) (engine : E) (m 
       → 1 ≤ most_lines m turn → 1 ≤ played
   pub steady : StopsForMemory (e.may_stop engine) → played ≡ most_lines m turn
 
--- all of a turn's lines had been played at a point, and so many attempts were begun since: none of them played a line
-pub record HasTriedInVain {E P B R : Type 0} (e : EngineWords E P) (engine : E) (m : Meaning B R) (turn : Turn)
-    (old new : P) (replies : List R) (attempts : ℕ) : Type 0 where
+-- What was played of a caller's turn: over an engine, of lines with a meaning, from one state of a pass to another, with
+-- these replies.
+pub record Stretch (E P B R : Type 0) : Type 1 where
+  pub words : EngineWords E P
+  pub engine : E
+  pub meaning : Meaning B R
+  pub turn : Turn
+  pub old : P
+  pub new : P
+  pub replies : List R
+
+abbrev pub stretch : {E P B R : Type 0} → EngineWords E P → E → Meaning B R → Turn → P → P → List R → Stretch E P B R
+stretch words engine meaning turn old new replies = record {
+  words = words;
+  engine = engine;
+  meaning = meaning;
+  turn = turn;
+  old = old;
+  new = new;
+  replies = replies;
+}
+
+-- an attempt with a tag met a conflict, as the engine's may: it was begun, and took no effect
+pub record StopsByConflict {E P : Type 0} (e : EngineWords E P) (engine : E) (tag : ℕ) (old new : P) : Type 0 where
+  pub shown : Shown
+  pub may : e.may_stop engine (stop.Conflict shown)
+  pub stops : Stops tag (e.front old) (e.front new)
+  pub begun : e.begun new ≡ e.begun old + 1
+
+-- attempts with a tag, one after another, each met a conflict: the list has the pass after each of them
+abbrev pub AllStopByConflict : {E P : Type 0} → EngineWords E P → E → ℕ → P → List P → P → Type 0
+AllStopByConflict e engine tag old [] new = new ≡ old
+AllStopByConflict e engine tag old (next ∷ later) new =
+    StopsByConflict e engine tag old next × AllStopByConflict e engine tag next later new
+
+-- All lines of a stretch had been played at a point. So many attempts were made from there on, at the line that follows,
+-- and each of them met a conflict.
+pub record HasTriedInVain {E P B R : Type 0} (s : Stretch E P B R) (conflicts : ℕ) : Type 0 where
   pub point : P
-  pub of : e.of engine point
-  pub played : PlaysLines m turn.caller turn.done (e.front old).lanes (e.front old) (e.front point) replies
-  pub since : e.begun new ≡ e.begun point + attempts
+  pub of : s.words.of s.engine point
+  pub played : PlaysLines s.meaning s.turn.caller s.turn.done (s.words.front s.old).lanes (s.words.front s.old)
+      (s.words.front point) s.replies
+  pub after : List P
+  pub count : length after ≡ conflicts
+  pub each : AllStopByConflict s.words s.engine (tag_of s.turn.caller (s.turn.done + length s.replies + 1)) point after
+      s.new
 
--- Why a turn with these replies ended: the caller has no line left; the turn has no attempt left; the engine's limit may
--- come; or its last attempts, so many in a row, played no line, and conflicts may come.
-abbrev pub EndsBy : {E P B R : Type 0} → EngineWords E P → E → Meaning B R → Turn → P → P → List R → End → Type 0
-EndsBy e engine m turn old new replies Lines = turn.done + length replies ≡ m.line_count turn.caller
-EndsBy e engine m turn old new replies Attempts = e.begun new ≡ e.begun old + turn.attempts
-EndsBy e engine m turn old new replies (Limit limit) = e.may_stop engine (stop.Limit limit)
-EndsBy e engine m turn old new replies Conflicts =
-    HasTriedInVain e engine m turn old new replies MOST_CONFLICTS
-    × ((shown : Shown) × e.may_stop engine (stop.Conflict shown))
+-- Why a turn ended: the caller has no line left; the turn has no attempt left; the engine's limit may come; or its last
+-- attempts, so many in a row, each met a conflict.
+abbrev pub EndsBy : {E P B R : Type 0} → Stretch E P B R → End → Type 0
+EndsBy s Lines = s.turn.done + length s.replies ≡ s.meaning.line_count s.turn.caller
+EndsBy s Attempts = s.words.begun s.new ≡ s.words.begun s.old + s.turn.attempts
+EndsBy s (Limit limit) = s.words.may_stop s.engine (stop.Limit limit)
+EndsBy s Conflicts = HasTriedInVain s MOST_CONFLICTS
 
--- of a turn with these replies, `Ok` says why it ended, and `Err` that the engine may run out of memory
-pub record EndsTurn {E P B R : Type 0} (e : EngineWords E P) (engine : E) (m : Meaning B R) (turn : Turn) (old new : P)
-    (replies : List R) (result : Result End AllocError) : Type 0 where
-  pub end : IfOk result (EndsBy e engine m turn old new replies)
-  pub no_memory : OnErr result (e.may_stop engine stop.NoMemory)
+-- of a turn, `Ok` says why it ended, and `Err` that the engine may run out of memory
+pub record EndsTurn {E P B R : Type 0} (s : Stretch E P B R) (result : Result End AllocError) : Type 0 where
+  pub end : IfOk result (EndsBy s)
+  pub no_memory : OnErr result (s.words.may_stop s.engine stop.NoMemory)

@@ -5,8 +5,8 @@ ghost use Rattle.md_history.specs.Attempt.{CountsAttempt, IfCommitted, IfStopped
 ghost use Rattle.md_many_attempts.specs.Tags.{tag_of};
 ghost use Rattle.md_many_attempts.specs.Meaning.{meaning_of};
 ghost use Rattle.md_many_attempts.specs.Turns.{CanPlayTurn, IsRoomFor, HoldsAsBefore, PlaysTurn};
-ghost use Rattle.md_many_attempts.specs.Turns.{PlaysEnough, EndsTurn};
-ghost use Rattle.md_many_attempts.specs.Batches.{IsCalm, EndsBatch};
+ghost use Rattle.md_many_attempts.specs.Turns.{PlaysEnough, EndsTurn, stretch};
+ghost use Rattle.md_many_attempts.specs.Batches.{CanPlayBatch, EndsBatch};
 ghost use Rattle.md_many_attempts.specs.Until.{MayStop};
 
 use crate::callers::Lines;
@@ -41,7 +41,7 @@ pub enum End {
     Conflicts,
 }
 
-/// A part of a turn, and the conflicts in a row before it.
+/// A batch of a turn's attempts, and the conflicts in a row before it.
 #[derive(Clone, Copy)]
 pub(crate) struct Batch {
     pub(crate) turn: Turn,
@@ -84,12 +84,12 @@ pub fn attempt_line<E: Engine, B: Body, G: Gate>(
 /// Plays a caller's turn: it attempts the caller's lines after the first `turn.done`, in order. If
 /// a line is committed, its reply goes to the end of `replies`, and the next line follows. If a
 /// line meets a conflict, it is attempted again. The turn ends when the caller has no line left,
-/// when it has made `turn.attempts` attempts, when an attempt meets a limit, or after `MOST_CONFLICTS`
-/// conflicts in a row. `Ok` has the cause (`End`).
+/// when it has made `turn.attempts` attempts, when an attempt meets a limit, or after
+/// `MOST_CONFLICTS` conflicts in a row. `Ok` has the cause (`End`).
 ///
 /// `replies` is empty, and has room for a reply to each line that the turn can play. Their number
-/// is the smaller of `turn.attempts` and the number of lines left. So this call takes no memory of its
-/// own.
+/// is the smaller of `turn.attempts` and the number of lines left. So this call takes no memory of
+/// its own.
 ///
 /// After a conflict it pauses for a random number of turns of the spin hint, below 2^n after n
 /// conflicts in a row and below 4,096. No clause speaks of time. The turn begins at most
@@ -97,8 +97,8 @@ pub fn attempt_line<E: Engine, B: Body, G: Gate>(
 ///
 /// It returns `AllocError` if an attempt of the engine runs out of memory. This ends the turn too.
 /// In every case the lanes of the pass committed exactly the lines whose replies are in `replies`,
-/// each under its own tag. If the pass is fresh, each lane has an attempt, the turn has an attempt and
-/// a line, and this line is within the engine's limits, then `Ok` means that a line was played.
+/// each under its own tag. If the pass is fresh, each lane has an attempt, the turn has an attempt
+/// and a line, and this line is within the engine's limits, then `Ok` means that a line was played.
 pub fn attempt_lines<E: Engine, L: Lines, G: Gate>(
     engine: &E,
     pass: &mut E::Pass,
@@ -115,8 +115,8 @@ pub fn attempt_lines<E: Engine, L: Lines, G: Gate>(
         (G.after_called gate.now) turn pass.old pass.new replies.new.items }
     ensures enough { OnOk result (PlaysEnough E.Engine engine.now
         (meaning_of L.B.Body L.Lines lines.now) turn pass.old (length replies.new.items)) }
-    ensures end { EndsTurn E.Engine engine.now (meaning_of L.B.Body L.Lines lines.now) turn
-        pass.old pass.new replies.new.items result }
+    ensures end { EndsTurn (stretch E.Engine engine.now (meaning_of L.B.Body L.Lines lines.now) turn
+        pass.old pass.new replies.new.items) result }
     ensures room { vec_capacity replies.old ≤ vec_capacity replies.new }
 {
     let streak = Streak::new(line_tag(turn.caller, turn.done));
@@ -125,8 +125,8 @@ pub fn attempt_lines<E: Engine, L: Lines, G: Gate>(
     Ok(end)
 }
 
-/// Plays a part of a turn, as `attempt_lines` plays a turn, but that it counts conflicts in a row
-/// from those of the batch. Beside the cause it returns the conflicts in a row at the end.
+/// Plays a batch of a turn, as `attempt_lines` plays a turn. But it counts conflicts in a row from
+/// those before the batch. Beside the cause it returns the conflicts in a row at the end.
 pub(crate) fn attempt_batch<E: Engine, L: Lines, G: Gate>(
     engine: &E,
     pass: &mut E::Pass,
@@ -136,18 +136,16 @@ pub(crate) fn attempt_batch<E: Engine, L: Lines, G: Gate>(
     replies: &mut Vec<<L::B as Body>::Reply>,
 ) -> Result<(End, Streak), AllocError>
     requires of { E.of engine.now pass.old }
-    requires turn { CanPlayTurn (meaning_of L.B.Body L.Lines lines.now) (E.start engine.now) batch.turn }
+    requires batch { CanPlayBatch (meaning_of L.B.Body L.Lines lines.now) (E.start engine.now)
+        batch }
     requires replies { IsRoomFor (meaning_of L.B.Body L.Lines lines.now) batch.turn replies.old }
-    requires calm { batch.streak.conflicts < MOST_CONFLICTS }
     ensures pass { HoldsAsBefore E.Engine engine.now pass.old pass.new }
     ensures turn { PlaysTurn E.Engine (meaning_of L.B.Body L.Lines lines.now)
         (G.after_called gate.now) batch.turn pass.old pass.new replies.new.items }
-    ensures calm { IsCalm batch.streak.conflicts (E.begun pass.old) (E.begun pass.new)
-        (length replies.new.items) }
     ensures enough { OnOk result (PlaysEnough E.Engine engine.now
         (meaning_of L.B.Body L.Lines lines.now) batch.turn pass.old (length replies.new.items)) }
-    ensures end { EndsBatch E.Engine engine.now (meaning_of L.B.Body L.Lines lines.now) batch
-        pass.old pass.new replies.new.items result }
+    ensures end { EndsBatch (stretch E.Engine engine.now (meaning_of L.B.Body L.Lines lines.now)
+        batch.turn pass.old pass.new replies.new.items) batch.streak.conflicts result }
     ensures room { vec_capacity replies.old ≤ vec_capacity replies.new }
 {
     pass_is_legal(engine, pass);

@@ -3,6 +3,7 @@
 ghost use Rattle.std.specs.Prelude.{IfOk};
 ghost use Rattle.md_many_attempts.specs.Meaning.{meaning_of};
 ghost use Rattle.md_many_attempts.specs.Turns.{CanPlayTurn, HoldsAsBefore, PlaysTurn, EndsBy};
+ghost use Rattle.md_many_attempts.specs.Turns.{stretch};
 
 use crate::attempts::{Batch, End, Turn, attempt_batch};
 use crate::callers::Lines;
@@ -24,11 +25,11 @@ pub struct Played<T> {
     pub replies: T,
 }
 
-/// Plays a caller's turn in batches of at most 128 attempts, each like `attempt_lines`. Conflicts in
-/// a row are counted from batch to batch. The replies of each batch have a vector of their own,
+/// Plays a caller's turn in batches of at most 128 attempts, each like `attempt_lines`. Conflicts
+/// in a row are counted from batch to batch. The replies of each batch have a vector of their own,
 /// which is then appended to the list of the turn. The turn ends with a batch that has an attempt
-/// left, or with the last of `turn.attempts`. The result says why the turn ended. Of the engine, the
-/// lines and `turn.done` it needs what `attempt_lines` does.
+/// left, or with the last of `turn.attempts`. The result says why the turn ended. Of the engine,
+/// the lines and `turn.done` it needs what `attempt_lines` does.
 ///
 /// A batch takes room for its replies at once: the smaller of its attempts and of the lines left.
 ///
@@ -52,8 +53,9 @@ where
     ensures pass { HoldsAsBefore E.Engine engine.now pass.old pass.new }
     ensures turn { IfOk result (λ p. PlaysTurn E.Engine (meaning_of L.B.Body L.Lines lines.now)
         (G.after_called gate.now) turn pass.old pass.new (T.listed p.replies)) }
-    ensures end { IfOk result (λ p. EndsBy E.Engine engine.now
-        (meaning_of L.B.Body L.Lines lines.now) turn pass.old pass.new (T.listed p.replies) p.end) }
+    ensures end { IfOk result (λ p. EndsBy (stretch E.Engine engine.now
+        (meaning_of L.B.Body L.Lines lines.now) turn pass.old pass.new (T.listed p.replies))
+        p.end) }
 {
     pass_is_legal(engine, pass);
     let count = lines.len(turn.caller);
@@ -69,14 +71,14 @@ where
             done,
             attempts,
         };
-        let part = Batch { turn, streak };
-        let mut batch = Vec::with_capacity(alloc, attempts.min(count - done) as usize)?;
-        let (end, after) = attempt_batch(engine, pass, lines, part, gate, &mut batch)?;
+        let batch = Batch { turn, streak };
+        let mut more = Vec::with_capacity(alloc, attempts.min(count - done) as usize)?;
+        let (end, after) = attempt_batch(engine, pass, lines, batch, gate, &mut more)?;
         pass_is_legal(engine, pass);
         streak = after;
-        done += batch.len() as u32;
+        done += more.len() as u32;
         left -= attempts;
-        replies.append(batch)?;
+        replies.append(more)?;
         let End::Attempts = end else {
             return Ok(Played { end, replies });
         };

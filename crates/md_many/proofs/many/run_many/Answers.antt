@@ -13,6 +13,7 @@ returns-in_err-empty_lists g c =
       gate = IfOk-from_err _ _ err;
       interleaving = IfOk-from_err _ _ err;
       serial = IfOk-from_err _ _ err;
+      fronts = IfOk-from_err _ _ err;
     }
 
 pub returns-in_err-rounds : goal.returns-in_err-rounds
@@ -23,4 +24,5 @@ returns-in_err-rounds g c =
       gate = IfOk-from_err _ _ err;
       interleaving = IfOk-from_err _ _ err;
       serial = IfOk-from_err _ _ err;
+      fronts = IfOk-from_err _ _ err;
     }

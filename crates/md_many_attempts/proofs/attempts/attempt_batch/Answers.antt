@@ -9,7 +9,7 @@ use Rattle.md_many_attempts.specs.declared.attempts.TheConstants.{MOST_CONFLICTS
 use Rattle.md_many_attempts.proofs.Playing.{played-none, played-stopped, played-more}
 use Rattle.md_many_attempts.proofs.Ending.{has-counted, most-played}
 use Rattle.md_many_attempts.proofs.Retrying.{no_conflict, conflict_counted, stop_counted}
-use Rattle.md_many_attempts.proofs.Trying.{if-none, if-some, on-err, one_more, other-end, same-of, some-of, tried-line, tried-vain, row-none, row-more, row-anew, ends-on}
+use Rattle.md_many_attempts.proofs.Trying.{if-none, if-some, on-err, one_more, other-end, same-of, some-of, tried-line, tried-vain, by-conflict, row-none, row-more, row-anew, ends-on}
 use Rattle.md_many_attempts.proofs.attempts.attempt_batch.Goals as goal
 use Rattle.md_many_attempts.proofs.attempts.attempt_batch.Goals.{in-None, in-Some-try_line+in_ok-end-in-Some-try_line+in_default-2}
 
@@ -18,9 +18,9 @@ attempts-init g c = record {
   of = c.requires.of;
   fated = c.pass_is_legal.ensures.legal.fated;
   lines = rw c.requires.replies.empty (played-none _ _ _ _);
-  within = omega (arith, c.requires.turn.done, ap length c.requires.replies.empty);
+  within = omega (arith, c.requires.batch.turn.done, ap length c.requires.replies.empty);
   few = omega (arith, ap length c.requires.replies.empty);
-  calm = c.requires.calm;
+  below = c.requires.batch.few;
   most = omega arith;
   in_row = row-none _ _ _ _ _ _ _ c.requires.replies.empty;
   room = omega arith;
@@ -47,7 +47,7 @@ attempts-preserved g c =
           let tried = tried-line (g.L.Lines.line_count c.args.lines.now c.args.batch.turn.caller) done
           c.args.batch.streak.conflicts (length rs) c.attempts.conflicts c.attempts.tried (g.E.Engine.begun c.args.pass.now) (g.E.Engine.begun c.attempts.pass)
           (length c.try_line.new.replies.items) c.match-try_line.conflicts (g.E.Engine.begun c.try_line.new.pass)
-          was.few was.calm was.most was.counted adds.counted count w.conflicts-is inside in
+          was.few was.below was.most was.counted adds.counted count w.conflicts-is inside in
           let lines = played-more _ _ _ _ c.attempts.tried c.in-Some.line adds.body adds.reply _ _ rs
           was.lines was.fated at adds.there adds.commits in
           record {
@@ -56,7 +56,7 @@ attempts-preserved g c =
             lines = rw adds.more lines;
             within = tried.within;
             few = tried.few;
-            calm = subst (λ n. n < MOST_CONFLICTS) (sym w.conflicts-is) (omega arith);
+            below = subst (λ n. n < MOST_CONFLICTS) (sym w.conflicts-is) (omega arith);
             most = tried.most;
             in_row = row-anew _ _ _ _ _ _ _ _ _ c.try_line.ensures.of (rw adds.more lines.plays) w.conflicts-is;
             room = omega (arith, was.room, c.try_line.ensures.room);
@@ -73,7 +73,7 @@ attempts-preserved g c =
           let tried = tried-vain (g.L.Lines.line_count c.args.lines.now c.args.batch.turn.caller) done
           c.args.batch.streak.conflicts (length rs) c.attempts.conflicts c.attempts.tried (g.E.Engine.begun c.args.pass.now) (g.E.Engine.begun c.attempts.pass)
           (length c.try_line.new.replies.items) c.match-try_line.conflicts (g.E.Engine.begun c.try_line.new.pass)
-          was.few was.calm was.most was.counted (conflict_counted _ _ _ met.met here.stopped.counted) (ap (λ v. length v.items) here.same)
+          was.few was.below was.most was.counted (conflict_counted _ _ _ met.met here.stopped.counted) (ap (λ v. length v.items) here.same)
           (w.conflicts-is ∙ met.more) was.within in
           record {
             of = c.try_line.ensures.of;
@@ -82,10 +82,10 @@ attempts-preserved g c =
                 (played-stopped _ _ _ _ c.attempts.tried _ _ _ rs was.lines was.fated here.stopped.stops);
             within = tried.within;
             few = tried.few;
-            calm = subst (λ n. n < MOST_CONFLICTS) (sym w.conflicts-is) met.calm;
+            below = subst (λ n. n < MOST_CONFLICTS) (sym w.conflicts-is) met.few;
             most = tried.most;
             in_row = rw here.same (row-more _ _ _ _ _ _ _ _ _ _ _ was.in_row
-                (conflict_counted _ _ _ met.met here.stopped.counted) (w.conflicts-is ∙ met.more));
+                (by-conflict _ _ _ c.args.batch.turn _ _ _ _ _ _ met.met at here.stopped) (w.conflicts-is ∙ met.more));
             room = omega (arith, was.room, c.try_line.ensures.room);
             counted = tried.counted;
             gate = rw here.same was.gate;
@@ -110,7 +110,7 @@ returns-in_default g c =
     let all : c.args.batch.turn.done + length c.attempts.replies.items ≡ g.L.Lines.line_count c.args.lines.now c.args.batch.turn.caller =
     omega (arith, c.in_default.ensures.none, c.len.ensures, c.attempts.replies.ok.0, c.len-count.ensures) in
     let counted = has-counted c.args.batch.turn _ _ _ _ _ 0 c.attempts.tried _ _ _ (g.E.Engine.begun c.attempts.pass)
-    was.within (omega (arith, c.len-count.ensures)) was.few was.calm was.most was.counted (omega arith) (omega arith)
+    was.within (omega (arith, c.len-count.ensures)) was.few was.below was.most was.counted (omega arith) (omega arith)
     (omega (arith, c.attempts-test.true)) was.lines.attempted.few (omega arith, omega arith) in
     record {
       pass = record {
@@ -126,12 +126,12 @@ returns-in_default g c =
         begun = counted.begun;
         gate = was.gate;
       };
-      calm = counted.calm;
       enough = record {
         first = λ fresh tries small some. omega (arith, some, all);
         steady = λ stops. omega (arith, was.steady stops, all, c.attempts-test.true);
       };
       end = record {
+        few = counted.few_attempts;
         end = all;
         no_memory = tt;
       };
@@ -145,7 +145,7 @@ returns-in_err-end-in-Some-try_line g c =
     let here = c.in-Some-try_line.ensures in
     let more = played-stopped _ _ _ _ _ _ _ _ _ was.lines was.fated here.stopped.stops in
     let counted = has-counted c.args.batch.turn _ _ _ _ _ 1 _ _ _ _ _ was.within (omega (arith, c.len-count.ensures))
-    was.few was.calm was.most was.counted refl (omega arith) (omega (arith, c.attempts-test.true)) more.attempted.few
+    was.few was.below was.most was.counted refl (omega arith) (omega (arith, c.attempts-test.true)) more.attempted.few
     (stop_counted _ _ _ here.stopped.counted) in
     let err = c.from_residual.ensures.0 in
     rw here.same (record {
@@ -162,9 +162,9 @@ returns-in_err-end-in-Some-try_line g c =
         begun = counted.begun;
         gate = was.gate;
       };
-      calm = counted.calm;
       enough = IfOk-from_err _ _ err;
       end = record {
+        few = counted.few_attempts;
         end = IfOk-from_err _ _ err;
         no_memory = on-err _ _
             (subst (g.E.Engine.may_stop c.args.engine.now) c.in_err-end-in-Some-try_line.ensures.no_memory here.stopped.may);
@@ -178,9 +178,11 @@ returns-in-Some-2 g c =
     let was = c.attempts.invariant in
     let here = c.in-Some-try_line.ensures in
     let on = if-some _ c.in-Some-2.is c.in_ok-end-in-Some-try_line.ensures.end in
+    let at : c.in-Some.line ≡ c.args.batch.turn.done + length c.attempts.replies.items + 1 =
+    omega (arith, c.in-Some.ensures.line, c.len.ensures, c.attempts.replies.ok.0) in
     let more = played-stopped _ _ _ _ _ _ _ _ _ was.lines was.fated here.stopped.stops in
     let counted = has-counted c.args.batch.turn _ _ _ _ _ 1 _ _ _ _ _ was.within (omega (arith, c.len-count.ensures))
-    was.few was.calm was.most was.counted refl (omega arith) (omega (arith, c.attempts-test.true)) more.attempted.few
+    was.few was.below was.most was.counted refl (omega arith) (omega (arith, c.attempts-test.true)) more.attempted.few
     (stop_counted _ _ _ here.stopped.counted) in
     rw here.same (record {
       pass = record {
@@ -196,7 +198,6 @@ returns-in-Some-2 g c =
         begun = counted.begun;
         gate = was.gate;
       };
-      calm = counted.calm;
       enough = record {
         first = λ fresh tries small some. elim (cases_eq c.attempts.tried 0) [
           | inl none ↦
@@ -211,7 +212,8 @@ returns-in-Some-2 g c =
         steady = λ stops. same-of _ _ (other-end _ _ _ on (stops _ here.stopped.may));
       };
       end = record {
-        end = ends-on _ _ _ _ _ _ _ _ _ _ _ _ _ was.in_row on here.stopped.may here.stopped.counted;
+        few = counted.few_attempts;
+        end = ends-on _ _ _ _ _ _ _ _ _ _ _ _ _ _ was.in_row on at here.stopped;
         no_memory = tt;
       };
       room = was.room;
@@ -221,7 +223,7 @@ pub returns : goal.returns
 returns g c =
     let was = c.attempts.invariant in
     let counted = has-counted c.args.batch.turn _ _ _ _ _ 0 c.attempts.tried _ _ _ (g.E.Engine.begun c.attempts.pass)
-    was.within (omega (arith, c.len-count.ensures)) was.few was.calm was.most was.counted (omega arith) (omega arith)
+    was.within (omega (arith, c.len-count.ensures)) was.few was.below was.most was.counted (omega arith) (omega arith)
     (omega arith) was.lines.attempted.few (omega arith, omega arith) in
     record {
       pass = record {
@@ -237,16 +239,16 @@ returns g c =
         begun = counted.begun;
         gate = was.gate;
       };
-      calm = counted.calm;
       enough = record {
         first = λ fresh tries small some. was.first fresh tries small (omega (arith, c.attempts-test.false, some));
         steady = λ stops. most-played _ _ _ _ _ counted.within (was.steady stops) (omega arith) c.attempts-test.false;
       };
       end = record {
+        few = counted.few_attempts;
         end = record {
           all = omega (arith, c.attempts-test.false, was.counted);
           in_row = was.in_row;
-          few = was.calm;
+          few = was.below;
           most = omega (arith, was.most, was.counted);
         };
         no_memory = tt;

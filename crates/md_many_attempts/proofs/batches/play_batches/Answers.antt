@@ -1,8 +1,9 @@
 use Rattle.std.proofs.Common.{◌≡◌, ◌≤◌, length, refl, sym, ap, subst, ◌∙◌, arith}
 use Rattle.std.proofs.lemmas.List.{length-append}
 use Rattle.std.proofs.lemmas.Result.{IfOk-from_err}
-use Rattle.md_many_attempts.specs.Batches.{EndsPart}
+use Rattle.md_many_attempts.specs.Batches.{BatchEndsBy}
 use Rattle.md_many_attempts.specs.Meaning.{meaning_of}
+use Rattle.md_many_attempts.specs.Turns.{stretch}
 use Rattle.md_many_attempts.proofs.Playing.{attempted-none, played-none}
 use Rattle.md_many_attempts.proofs.Following.{plays-then, attempted-then}
 use Rattle.md_many_attempts.proofs.Ending.{told-then, ends-then, vain-none, vain-then}
@@ -20,7 +21,7 @@ batches-init g c = record {
   within = c.requires.turn.done;
   gate = λ line after before. absurd (omega arith);
   vain = vain-none _ _ _ _ _ _ _ c.requires.of c.new-replies.ensures c.new-streak.ensures;
-  calm = omega (arith, c.new-streak.ensures);
+  below = omega (arith, c.new-streak.ensures);
   most = omega arith;
   each = omega (arith, ap length c.new-replies.ensures);
   counted = refl;
@@ -36,9 +37,10 @@ batches-preserved g c =
     let count = ap length all ∙ length-append (g.T.ReplyList.listed c.batches.replies) c.attempt_batch.new.replies.items in
     let len : c.len.result ≡ length c.attempt_batch.new.replies.items =
     c.len.ensures ∙ c.attempt_batch.new.replies.ok.0 in
-    let whole = subst (λ end. EndsPart g.E.Engine c.args.engine.now (meaning_of g.L.B.Body g.L.Lines c.args.lines.now)
+    let whole = subst (λ end. BatchEndsBy (stretch g.E.Engine c.args.engine.now
+    (meaning_of g.L.B.Body g.L.Lines c.args.lines.now)
     (record { caller = c.args.turn.caller; done = c.batches.done; attempts = c.min-attempts.result })
-    c.batches.streak.conflicts c.batches.pass c.attempt_batch.new.pass c.attempt_batch.new.replies.items end
+    c.batches.pass c.attempt_batch.new.pass c.attempt_batch.new.replies.items) c.batches.streak.conflicts end
     c.in_ok-end.after.conflicts) c.in-Attempts.is c.in_ok-end.ensures.end.end in
     record {
       of = pass.of;
@@ -57,7 +59,7 @@ batches-preserved g c =
       gate = told-then _ _ c.batches.done _ was.gate
           (λ line after before. more.gate line after (omega (arith, before, len)));
       vain = rw all (vain-then _ _ _ _ _ _ _ _ _ _ _ _ was.lines was.lanes was.fated was.done was.vain _ whole.in_row);
-      calm = whole.few;
+      below = whole.few;
       most = omega (arith, count, was.most, whole.most);
       each = omega (arith, count, was.each, more.begun.each);
       counted = omega (arith, was.counted, whole.all, c.min-attempts.ensures);
@@ -89,7 +91,7 @@ returns-in_default g c =
         begun = record {
           each = omega (arith, count, was.each, more.begun.each);
           most = omega (arith, was.counted, more.begun.most, c.min-attempts.ensures);
-          calm = omega (arith, count, was.most, c.in_ok-end.ensures.calm);
+          few = omega (arith, count, was.most, c.attempt_batch.ensures.end.few);
         };
         gate = λ line after before. told-then _ _ c.batches.done _ was.gate more.gate line after
             (omega (arith, before, count, was.done));
@@ -98,8 +100,8 @@ returns-in_default g c =
           c.in_default.not-Attempts c.in_ok-end.ensures.end.end);
     }
 
-pub returns-in_err-batch : goal.returns-in_err-batch
-returns-in_err-batch g c =
+pub returns-in_err-more : goal.returns-in_err-more
+returns-in_err-more g c =
     let was = c.batches.invariant in
     let err = c.from_residual.ensures.0 in
     record {
@@ -140,7 +142,7 @@ returns g c =
         within = omega (arith, was.done, was.within);
         few = omega (arith, was.done, was.within, c.len-count.ensures);
         attempts = omega (arith, was.attempts);
-        begun = record { each = was.each; most = omega (arith, was.counted); calm = omega (arith, was.most, was.calm) };
+        begun = record { each = was.each; most = omega (arith, was.counted); few = omega (arith, was.most, was.below) };
         gate = λ line after before. was.gate line after (subst (λ n. line ≤ n) (sym was.done) before);
       };
       end = omega (arith, was.counted, c.batches-test.false);

@@ -2,7 +2,7 @@ use Rattle.std.proofs.Common.{◌≡◌, ◌<◌, ◌≤◌, ◌+◌, ◌*◌, �
 use Rattle.md_many_attempts.specs.Joined.{entries_after}
 use Rattle.md_many_attempts.specs.Lines.{PlaysLines}
 use Rattle.md_many_attempts.specs.Meaning.{meaning_of}
-use Rattle.md_many_attempts.specs.Turns.{HasTriedInVain}
+use Rattle.md_many_attempts.specs.Turns.{HasTriedInVain, stretch}
 use Rattle.md_many_attempts.specs.declared.attempts.TheConstants.{MOST_CONFLICTS}
 use Rattle.md_many_attempts.proofs.batches.play_batches.Given as goal
 
@@ -22,9 +22,9 @@ invariant-batches g l =
       done : l.done ≡ l.fn.turn.done + length (listed l.replies);
       within : l.done ≤ g.L.Lines.line_count l.lines l.fn.turn.caller;
       gate : (line : ℕ) → l.fn.turn.done < line → line ≤ l.done → g.G.Gate.after_called l.gate l.fn.turn.caller line;
-      vain : HasTriedInVain g.E.Engine l.engine (meaning_of g.L.B.Body g.L.Lines l.lines) l.fn.turn l.fn.pass l.pass
-          (listed l.replies) l.streak.conflicts;
-      calm : l.streak.conflicts < MOST_CONFLICTS;
+      vain : HasTriedInVain (stretch g.E.Engine l.engine (meaning_of g.L.B.Body g.L.Lines l.lines) l.fn.turn l.fn.pass
+          l.pass (listed l.replies)) l.streak.conflicts;
+      below : l.streak.conflicts < MOST_CONFLICTS;
       most : g.E.Engine.begun l.pass
           ≤ g.E.Engine.begun l.fn.pass + MOST_CONFLICTS * length (listed l.replies) + l.streak.conflicts;
       each : g.E.Engine.begun l.fn.pass + length (listed l.replies) ≤ g.E.Engine.begun l.pass;

@@ -15,7 +15,7 @@ returns-else-conflicts-eq-MOST_CONFLICTS-clause-again g = record {
   shown = g.in-Conflict.shown;
   met = g.in-Conflict.is;
   more = refl;
-  calm = omega arith;
+  few = omega arith;
 }
 
 pub returns-else-conflicts-eq-MOST_CONFLICTS-clause-end : goal.returns-else-conflicts-eq-MOST_CONFLICTS-clause-end
