@@ -4,7 +4,8 @@ ghost use Rattle.std.specs.Prelude.{◌≡◌, ◌≢◌, ◌<◌, ◌+◌, ◌/
 ghost use Rattle.std.specs.Prelude.{length, drop, count_by, IsTrue, IfSome, IfOk, false};
 ghost use Rattle.md_many_attempts.specs.ByCaller.{lists_in};
 ghost use Rattle.example_bank.specs.Bank.{IsBank, bank_in, total};
-ghost use Rattle.example_bank.specs.Journal.{is_moved, moved_among, moved_after, from_next, left_of};
+ghost use Rattle.example_bank.specs.Journal.{is_moved, moved_among, moved_after, from_next};
+ghost use Rattle.example_bank.specs.Journal.{left_of};
 ghost use Rattle.example_bank.specs.Journal.{of_teller, IsJournalOf};
 
 use crate::bank::{ACCOUNTS, JOURNAL, Outcome};

@@ -10,7 +10,8 @@ ghost use Rattle.md_machine.specs.declared.step.Step.{Step};
 ghost use Rattle.md_machine.specs.declared.step.TheConstants.{LAST_COUNT};
 ghost use Rattle.md_machine.specs.events.Decide.{SinceStatus};
 ghost use Rattle.md_rule.specs.Views.{IsOf};
-ghost use Rattle.example_stalls.specs.Inserting.{CarriesOut, HasInserted, HasNoInstall, Inserts, IsTried};
+ghost use Rattle.example_stalls.specs.Inserting.{CarriesOut, HasInserted, HasNoInstall, Inserts};
+ghost use Rattle.example_stalls.specs.Inserting.{IsTried};
 ghost use Rattle.example_stalls.specs.Inserting.{Loses, MakesCommit, MakesReady, MayInsert, Puts};
 ghost use Rattle.example_stalls.specs.Inserting.{inserted};
 
@@ -95,7 +96,8 @@ fn enter(field: &Field<CellTheory>, pass: &mut Pass<CellTheory>, desc: u32) -> b
 fn commit(field: &Field<CellTheory>, pass: &mut Pass<CellTheory>, desc: u32) -> bool
     requires field { IsOf pass.old field.now }
     requires exists { desc < desc_count field.now.origin.shape }
-    requires since { SinceStatus field.now.origin.shape pass.old.view desc (status_word InProg 0 0) }
+    requires since { SinceStatus field.now.origin.shape pass.old.view desc
+        (status_word InProg 0 0) }
     ensures field { IsOf pass.new field.now }
     ensures commits { MakesCommit field.now.origin.shape desc result pass.old.view pass.new.view }
 {
@@ -103,18 +105,18 @@ fn commit(field: &Field<CellTheory>, pass: &mut Pass<CellTheory>, desc: u32) -> 
         .is_ok()
 }
 
-/// A transaction of a lane's first attempt inserts a value into a cell that has none, becomes ready,
-/// and is committed if `decides` says so. It is left there, with its descriptor in the word. The
-/// content has an even count that is at most `LAST_COUNT`, and the pass has nothing in hand, before
-/// and afterwards.
+/// A transaction of a lane's first attempt inserts a value into a cell that has none, becomes
+/// ready, and is committed if `decides` says so. It is left there, with its descriptor in the word.
+/// The content has an even count that is at most `LAST_COUNT`, and the pass has nothing in hand,
+/// before and afterwards.
 ///
 /// The answer says whether each step won. Then the attempt joined the history with this insert, and
 /// its status was changed to in progress, and to committed if `decides` says so.
 ///
 /// It is false without a step if the content has a value, if `value` is the largest `u32`, if the
 /// lowest lane that has an attempt left has begun one before, or if no lane has one left. Otherwise
-/// it is false only if the word didn't hold `found`, or if the attempt no longer had the status that
-/// a step expects: in preparation to become ready, and in progress to be committed.
+/// it is false only if the word didn't hold `found`, or if the attempt no longer had the status
+/// that a step expects: in preparation to become ready, and in progress to be committed.
 pub fn insert(
     field: &Field<CellTheory>,
     pass: &mut Pass<CellTheory>,

@@ -28,8 +28,8 @@ pub fn ticket_word(field: &Field<CellTheory>) -> u32
 /// all tickets below some number are taken, and never gets one of these. After the call it also
 /// knows that its own ticket, and all below it, are taken.
 ///
-/// It returns `None` only if another thread took the ticket that was found, if no ticket is left, or
-/// if a descriptor stands in the word. It takes at most 2 steps, whatever other threads do.
+/// It returns `None` only if another thread took the ticket that was found, if no ticket is left,
+/// or if a descriptor stands in the word. It takes at most 2 steps, whatever other threads do.
 pub fn take_ticket(field: &Field<CellTheory>, pass: &mut Pass<CellTheory>) -> Option<u32>
     requires { IsOf pass.old field.now }
     ensures same { pass.new ≡ record pass.old { view = pass.new.view } }

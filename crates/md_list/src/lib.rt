@@ -3,8 +3,8 @@
 //! (2002).
 //!
 //! [`find`] looks for the place of a key, and unlinks removed nodes on its way. [`get`] reads the
-//! value of a key, [`insert`] inserts a key that is absent, [`remove`] removes one, and [`put`] sets
-//! the value of a key.
+//! value of a key, [`insert`] inserts a key that is absent, [`remove`] removes one, and [`put`]
+//! sets the value of a key.
 //!
 //! The comments use these words. A **step** is one atomic step on a shared word. If a transaction
 //! **records** a word, it commits only if the word still holds what was seen there. If it

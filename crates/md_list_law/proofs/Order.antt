@@ -12,7 +12,7 @@ onward_least false key next o = omega (arith, o)
 
 pub onward_more : (marked : Bool) (key next : ℕ) → key < next → IsOnward marked key next
 onward_more true key next less = omega (arith, less)
-onward_more false key next less = less
+onward_more false key next less = omega (arith, less)
 
 module _ (h : LogicalHeap) (list : Structure) (key value : ℕ) where
   pub onward_names : NamesOnward h list key value → Names h list value

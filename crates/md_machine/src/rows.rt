@@ -1,6 +1,7 @@
 //! Placed nodes, and events that are refused: what the definitions say in single cases.
 
-ghost use Rattle.md_machine.specs.Refused.{AlwaysMeansEvery, NeverMeansNone, PublishedNodeRefused, OtherSlotRefused, EarlierValueRefused, NamedNodeRefused};
+ghost use Rattle.md_machine.specs.Refused.{AlwaysMeansEvery, NeverMeansNone, PublishedNodeRefused};
+ghost use Rattle.md_machine.specs.Refused.{OtherSlotRefused, EarlierValueRefused, NamedNodeRefused};
 
 use crate::theory::Theory;
 

@@ -9,6 +9,7 @@ ghost use Rattle.md_nbtc_law.specs.Ending.{Stopped, TellsWhy, receipt_of, shown_
 ghost use Rattle.md_nbtc_law.specs.Ended.{WasCommitted, WasLost, WasUnready};
 ghost use Rattle.md_nbtc_law.specs.LeftReady.{WasLeftReady};
 ghost use Rattle.md_nbtc_law.specs.Going.{IsUnderWay};
+ghost use Rattle.md_nbtc_sets.specs.Deciding.{state_by};
 ghost use Rattle.md_nbtc.specs.Ending.{ready_state};
 ghost use Rattle.md_nbtc.specs.State.{state};
 
@@ -65,7 +66,6 @@ impl<'a, T: Theory> Txn<'a, T> {
             × (r.shown ≡ shown_unready (state self.entry))
             × IsShown (state self.entry) r.pass.now r.shown) }
     {
-        let about = Snapshot::of(&self);
         let Txn {
             pass,
             field,
@@ -76,8 +76,7 @@ impl<'a, T: Theory> Txn<'a, T> {
             sets,
             stop: _,
         } = self;
-        let from = unready(serial);
-        match pass.ready::<Brand, _>(field, desc, from, sets.reads.len(), about) {
+        match made_ready(field, pass, &began, AttemptId { desc, serial }, tag, sets) {
             Ok(()) => Ok(Ready {
                 pass,
                 field,
@@ -87,16 +86,7 @@ impl<'a, T: Theory> Txn<'a, T> {
                 tag,
                 sets,
             }),
-            Err(found) => {
-                let attempt = AttemptId { desc, serial };
-                withdraw(field, pass, attempt, &sets.slots, &sets.lots, &began);
-                let shown = Shown {
-                    word: field.shape().status(desc),
-                    was: from,
-                    now: found,
-                };
-                Err(NotReady { pass, shown })
-            }
+            Err(shown) => Err(NotReady { pass, shown }),
         }
     }
 }
@@ -112,7 +102,6 @@ impl<'a, T: Theory> Txn<'a, T> {
             self.exit.0.now) }
         ensures lost { IfErr result (WasLost T.meaning (state self.entry) self.exit.0.now) }
     {
-        let about = Snapshot::of(&self);
         let Txn {
             pass,
             field,
@@ -123,19 +112,9 @@ impl<'a, T: Theory> Txn<'a, T> {
             sets,
             stop: _,
         } = self;
-        let from = unready(serial);
-        match pass.ready::<Brand, _>(field, desc, from, sets.reads.len(), about) {
-            Ok(()) => decided(field, pass, &began, AttemptId { desc, serial }, tag, sets),
-            Err(found) => {
-                let attempt = AttemptId { desc, serial };
-                withdraw(field, pass, attempt, &sets.slots, &sets.lots, &began);
-                Err(Shown {
-                    word: field.shape().status(desc),
-                    was: from,
-                    now: found,
-                })
-            }
-        }
+        let attempt = AttemptId { desc, serial };
+        made_ready(field, pass, &began, attempt, tag, sets)?;
+        decided(field, pass, &began, attempt, tag, sets)
     }
 }
 
@@ -150,29 +129,55 @@ impl<'a, T: Theory> Txn<'a, T> {
             self.exit.0.now) }
         ensures refused { IfErr result (WasUnready T.meaning (state self.entry) self.exit.0.now) }
     {
-        let about = Snapshot::of(&self);
         let Txn {
             pass,
             field,
             began,
             desc,
             serial,
-            tag: _,
+            tag,
             sets,
             stop: _,
         } = self;
-        let from = unready(serial);
-        match pass.ready::<Brand, _>(field, desc, from, sets.reads.len(), about) {
-            Ok(()) => Ok(()),
-            Err(found) => {
-                let attempt = AttemptId { desc, serial };
-                withdraw(field, pass, attempt, &sets.slots, &sets.lots, &began);
-                Err(Shown {
-                    word: field.shape().status(desc),
-                    was: from,
-                    now: found,
-                })
-            }
+        made_ready(field, pass, &began, AttemptId { desc, serial }, tag, sets)
+    }
+}
+
+// Makes a transaction ready, which is given by its parts as to `decided`. If another pass has
+// aborted it, it is withdrawn, and its status word is shown, before and after the abort.
+fn made_ready<T: Theory>(
+    field: &Field<T>,
+    pass: &mut Pass<T>,
+    began: &Snapshot<Pass<T>>,
+    attempt: AttemptId,
+    tag: u64,
+    sets: &Sets,
+) -> Result<(), Shown>
+    requires going { IsUnderWay T.meaning
+        (state_by field.now pass.old began.now.value sets.now attempt tag) }
+    requires between { let t = state_by field.now pass.old began.now.value sets.now attempt tag in
+        t.hand.operating ≡ false }
+    ensures ready { let u = state_by field.now pass.new began.now.value sets.now attempt tag in
+        IfOk result (λ _. (is : IsReady T.meaning u)
+        × Readies (state_by field.now pass.old began.now.value sets.now attempt tag) u
+        is.entry) }
+    ensures refused { let t = state_by field.now pass.old began.now.value sets.now attempt tag in
+        IfErr result (λ shown. Stopped T.meaning t pass.new × (shown ≡ shown_unready t)
+        × IsShown t pass.new shown) }
+{
+    let AttemptId { desc, serial } = attempt;
+    let before = Snapshot::of(&*pass);
+    let about = Snapshot::of(&(before, began, sets, attempt, tag));
+    let from = unready(serial);
+    match pass.ready::<Brand, _>(field, desc, from, sets.reads.len(), about) {
+        Ok(()) => Ok(()),
+        Err(found) => {
+            withdraw(field, pass, attempt, &sets.slots, &sets.lots, began);
+            Err(Shown {
+                word: field.shape().status(desc),
+                was: from,
+                now: found,
+            })
         }
     }
 }

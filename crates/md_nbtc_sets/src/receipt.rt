@@ -76,7 +76,7 @@ impl Model for Receipt {
 
 impl Receipt {
     /// The receipt of a transaction with this tag that recorded these words and changed those of
-    /// these slots. There are at most 128 of each. The contents of a changed word, recorded and
+    /// these slots. There are at most `SET` of each. The contents of a changed word, recorded and
     /// replaced, have counts of at most `LAST_COUNT`. It takes no step and no memory.
     pub fn of(tag: u64, reads: &Reads, slots: &Slots) -> Receipt
         requires { MayTell reads.now (map (λ s. s.write) slots.now) }

@@ -70,7 +70,7 @@ impl Reads {
     }
 
     /// What was recorded of a word: None exactly if it isn't recorded. It takes no step, and
-    /// searches at most 128 words.
+    /// searches at most `SET` words.
     pub fn content(&self, word: u32) -> Option<u64>
         ensures { result ≡ content_read self.now word }
     {
@@ -90,7 +90,7 @@ impl Reads {
         self.items[i as usize]
     }
 
-    /// Records one word more. Fewer than 128 are recorded. It takes no step and no memory.
+    /// Records one word more. Fewer than `SET` are recorded. It takes no step and no memory.
     pub fn push(&mut self, read: Read)
         requires { length self.old < SET }
         ensures { self.new ≡ self.old ++ read ∷ [] }
@@ -149,7 +149,7 @@ impl Slots {
     }
 
     /// The place of the slot of a word: None exactly if the word has none. It takes no step, and
-    /// searches at most 128 slots.
+    /// searches at most `SET` slots.
     pub fn find(&self, word: u32) -> Option<u8>
         ensures { result ≡ place_of self.now word 0 }
     {
@@ -169,7 +169,7 @@ impl Slots {
         self.items[i as usize]
     }
 
-    /// Keeps one slot more. There are fewer than 128. It takes no step and no memory.
+    /// Keeps one slot more. There are fewer than `SET`. It takes no step and no memory.
     pub fn push(&mut self, slot: Slot)
         requires { length self.old < SET }
         ensures { self.new ≡ self.old ++ slot ∷ [] }
@@ -180,7 +180,7 @@ impl Slots {
     }
 
     /// Keeps a cleanup with the slot of a word, in place of one that was kept there. Nothing is
-    /// kept if the word has no slot. It takes no step, and goes over at most 128 slots.
+    /// kept if the word has no slot. It takes no step, and goes over at most `SET` slots.
     pub fn keep(&mut self, word: u32, cleanup: Cleanup)
         ensures { self.new ≡ map (with_cleanup word cleanup) self.old }
     {
@@ -264,8 +264,8 @@ impl Lots {
         false
     }
 
-    /// Keeps where the nodes of a lane begin, unless it is known. If it isn't, fewer than 64 lanes
-    /// gave nodes. It takes no step and no memory, and searches at most 64 lanes.
+    /// Keeps where the nodes of a lane begin, unless it is known. If it isn't, fewer than `LANES`
+    /// lanes gave nodes. It takes no step and no memory, and searches at most `LANES` of them.
     pub fn keep(&mut self, lot: Lot)
         requires { list_any (λ l. l.lane == lot.lane) self.old ≡ false → length self.old < LANES }
         ensures { self.new ≡ with_lot self.old lot }

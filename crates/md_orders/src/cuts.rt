@@ -1,6 +1,7 @@
 //! Where the bytes of an order file may be cut, so that its records are those of the parts.
 
-ghost use Rattle.std.specs.Prelude.{◌≡◌, ◌≢◌, ◌<◌, ◌≤◌, ◌-◌, ◌++◌, ◌∷◌, Decides, IfSome, length, slice_index_or};
+ghost use Rattle.std.specs.Prelude.{◌≡◌, ◌≢◌, ◌<◌, ◌≤◌, ◌-◌, ◌++◌, ◌∷◌, Decides, IfSome, length};
+ghost use Rattle.std.specs.Prelude.{slice_index_or};
 ghost use Rattle.md_orders.specs.Records.{order_records};
 ghost use Rattle.md_orders.specs.Version.{version_record};
 

@@ -1,7 +1,8 @@
 //! The generator of made commands: its draws, and the command that they give.
 
 ghost use Rattle.std.specs.Prelude.{◌≡◌, ◌≤◌, ◌/◌, ◌^◌};
-ghost use Rattle.md_orders.specs.Generator.{next_state, state_after_draws, draws_from, made_command};
+ghost use Rattle.md_orders.specs.Generator.{next_state, state_after_draws, draws_from};
+ghost use Rattle.md_orders.specs.Generator.{made_command};
 
 use md_book::{Command, MAX_SCRIPT_LINE, PLACES_IN_VERSION_1, Side, order_name};
 

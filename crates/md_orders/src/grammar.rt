@@ -2,7 +2,9 @@
 
 ghost use Rattle.std.specs.Prelude.{◌≡◌};
 ghost use Rattle.csv.specs.Records.{fields_of};
-ghost use Rattle.md_orders.specs.Grammar.{account_at, price_at, quantity_at, terms_of, place_of, cancel_of, fill_of, kill_of, depth_of, account_of, command_of, caller_of};
+ghost use Rattle.md_orders.specs.Grammar.{account_at, price_at, quantity_at, terms_of, place_of};
+ghost use Rattle.md_orders.specs.Grammar.{cancel_of, fill_of, kill_of, depth_of, account_of};
+ghost use Rattle.md_orders.specs.Grammar.{command_of, caller_of};
 
 use crate::fields::{byte_at, number_at, side_at};
 use crate::version::Version;

@@ -52,9 +52,11 @@ pub(crate) fn join_reads(
 ) -> Result<Notes, OrderFault>
     requires few { callers ≤ MAX_CALLER }
     requires reads { (version : Version) × (low : List Row) × (high : List Row)
-        × IsReadAsNotes (Some version) callers low first × IsReadAsNotes (Some version) callers high second }
+        × IsReadAsNotes (Some version) callers low first
+        × IsReadAsNotes (Some version) callers high second }
     ensures { (version : Version) → (low : List Row) → (high : List Row)
-        → IsReadAsNotes (Some version) callers low first → IsReadAsNotes (Some version) callers high second
+        → IsReadAsNotes (Some version) callers low first
+        → IsReadAsNotes (Some version) callers high second
         → IsReadAsNotes (Some version) callers (low ++ high) result }
 {
     join_notes(first?, second?, callers)

@@ -1,4 +1,5 @@
-//! Order files: their records, the scripts that they write, and scripts that are made from a number.
+//! Order files: their records, the scripts that they write, and scripts that are made from a
+//! number.
 #![tactic(auto)]
 
 mod cuts;

@@ -1,6 +1,7 @@
 //! Reading an order file.
 
-ghost use Rattle.std.specs.Prelude.{◌≡◌, ◌≤◌, ◌<◌, ◌++◌, ◌∷◌, ℕ, List, false, Some, [], IfOk, IfSome, IfNone, OnOk, IsErrOf};
+ghost use Rattle.std.specs.Prelude.{◌≡◌, ◌≤◌, ◌<◌, ◌++◌, ◌∷◌, ℕ, List, false, Some, [], IfOk};
+ghost use Rattle.std.specs.Prelude.{IfSome, IfNone, OnOk, IsErrOf};
 ghost use Rattle.csv.specs.Records.{fields_of};
 ghost use Rattle.md_orders.specs.Records.{Row, order_records, max_records, AreFewRecords};
 ghost use Rattle.md_orders.specs.Grammar.{keeps, first_bad};

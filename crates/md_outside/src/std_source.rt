@@ -16,7 +16,8 @@ pub struct StdSource<R> {
 }
 
 impl<R: Read> StdSource<R> {
-    ghost use Rattle.md_outside.specs.StdSource.{source_reader, source_faults, source_bytes, KeepsReads};
+    ghost use Rattle.md_outside.specs.StdSource.{source_reader, source_faults, source_bytes};
+    ghost use Rattle.md_outside.specs.StdSource.{KeepsReads};
 
     /// A source that reads from `inner`, with a count of 0 faults. No byte was read yet.
     pub fn new(inner: R) -> StdSource<R>

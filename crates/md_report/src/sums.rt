@@ -3,7 +3,9 @@
 ghost use Rattle.std.specs.Prelude.{◌≡◌, ◌≤◌, ◌<◌, ◌*◌, ◌^◌, length};
 ghost use Rattle.md_orders.specs.Scripts.{list_of};
 ghost use Rattle.md_report.specs.Report.{value_at};
-ghost use Rattle.md_report.specs.Summary.{quantity_placed, quantity_cancelled, quantity_filled, line_totals, both_totals, AreAtMost, script_totals, all_totals, open_at_of};
+ghost use Rattle.md_report.specs.Summary.{quantity_placed, quantity_cancelled, quantity_filled};
+ghost use Rattle.md_report.specs.Summary.{line_totals, both_totals, AreAtMost, script_totals};
+ghost use Rattle.md_report.specs.Summary.{all_totals, open_at_of};
 
 use md_book::{BookReply, Command, DEPTHS, MAPS, MAX_PRICE, Side};
 use md_history::Contents;

@@ -3,7 +3,9 @@
 mod line_buffer;
 pub(crate) mod packed_lines;
 
-ghost use Rattle.std.specs.Prelude.{◌≡◌, ◌++◌, ◌≤◌, ◌<◌, ◌+◌, ◌/◌, ◌%◌, ◌*◌, ◌^◌, List, Option, length, take, slice_index_or, flat_map, codes, decimal, OnOk, IfOk, IfSome};
+ghost use Rattle.std.specs.Prelude.{◌≡◌, ◌++◌, ◌≤◌, ◌<◌, ◌+◌, ◌/◌, ◌%◌, ◌*◌, ◌^◌, List, Option};
+ghost use Rattle.std.specs.Prelude.{length, take, slice_index_or, flat_map, codes, decimal, OnOk};
+ghost use Rattle.std.specs.Prelude.{IfOk, IfSome};
 ghost use Rattle.md_history.specs.State.{State};
 ghost use Rattle.md_book.specs.Book.{Book};
 ghost use Rattle.md_book.specs.Stands.{StandsFor};
@@ -13,7 +15,11 @@ ghost use Rattle.md_report_replies.specs.Rooms.{parts_in, reply_in};
 ghost use Rattle.md_report.specs.declared.text.TheConstants.{NAME, PART, PARTS, REPLY};
 ghost use Rattle.md_report.specs.declared.text.line_buffer.TheConstants.{SIZE, DIGITS};
 ghost use Rattle.md_report.specs.Summary.{summary_text, summary_text_of};
-ghost use Rattle.md_report.specs.Report.{name_text, part_text, filled_text, reply_text, answer_text, lines_text, callers_text_after, level_text, account_text, done_text, report_text, levels_text_of, accounts_text_of, after_replies_text_of, replies_text, report_text_of};
+ghost use Rattle.md_report.specs.Report.{name_text, part_text, filled_text, reply_text};
+ghost use Rattle.md_report.specs.Report.{answer_text, lines_text, callers_text_after, level_text};
+ghost use Rattle.md_report.specs.Report.{account_text, done_text, report_text, levels_text_of};
+ghost use Rattle.md_report.specs.Report.{accounts_text_of, after_replies_text_of, replies_text};
+ghost use Rattle.md_report.specs.Report.{report_text_of};
 ghost use Rattle.md_orders.specs.Scripts.{count_of};
 ghost use Rattle.md_report.specs.Sums.{HaveSameSums};
 

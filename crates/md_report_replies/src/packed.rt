@@ -1,12 +1,16 @@
 //! Replies in a list, each in as many numbers as it has.
 
-ghost use Rattle.std.specs.Prelude.{◌≡◌, ◌≢◌, ◌↔◌, ◌==◌, ◌<◌, ◌≤◌, ◌+◌, ◌-◌, ◌*◌, ◌++◌, ◌∷◌, ◌^◌, ℕ, []};
-ghost use Rattle.std.specs.Prelude.{Some, All, map, min, length, take, drop, slice_index_or, vec_len, vec_capacity, OnOk, OnErr, IsTrue};
+ghost use Rattle.std.specs.Prelude.{◌≡◌, ◌≢◌, ◌↔◌, ◌==◌, ◌<◌, ◌≤◌, ◌+◌, ◌-◌, ◌*◌, ◌++◌, ◌∷◌, ◌^◌};
+ghost use Rattle.std.specs.Prelude.{ℕ, []};
+ghost use Rattle.std.specs.Prelude.{Some, All, map, min, length, take, drop, slice_index_or};
+ghost use Rattle.std.specs.Prelude.{vec_len, vec_capacity, OnOk, OnErr, IsTrue};
 ghost use Rattle.md_book.specs.declared.limits.TheConstants.{MAX_PARTS};
 ghost use Rattle.md_book.specs.Book.{padded};
 ghost use Rattle.md_book.specs.Suits.{IsPart};
 ghost use Rattle.md_report_replies.specs.declared.packed.TheConstants.{MAX_NUMBERS};
-ghost use Rattle.md_report_replies.specs.Packed.{IsPackable, no_part, size_of, numbers_of, parts_of, unpacked, unpacked_all, ArePacked, IsPacked, KeepsFew};
+ghost use Rattle.md_report_replies.specs.Packed.{IsPackable, no_part, size_of, numbers_of};
+ghost use Rattle.md_report_replies.specs.Packed.{parts_of, unpacked, unpacked_all, ArePacked};
+ghost use Rattle.md_report_replies.specs.Packed.{IsPacked, KeepsFew};
 ghost use Rattle.md_report_replies.specs.Replies.{with_replies, SuitTheirLines};
 ghost use Rattle.md_report_replies.specs.Rooms.{FitsRoom, part_number, reply_in};
 
@@ -26,8 +30,8 @@ const MAX_NUMBERS: usize = 2 * MAX_PARTS + 1;
 // What is left out at the end of parts.
 const NO_PART: Part = Part { name: 0, taken: 0 };
 
-/// Which reply it is, and what of it is small. Of a fill the first `kept` parts are numbers, and the
-/// others are zero.
+/// Which reply it is, and what of it is small. Of a fill the first `kept` parts are numbers, and
+/// the others are zero.
 #[derive(Clone, Copy)]
 pub enum PackedHead {
     Placed,
@@ -202,7 +206,8 @@ pub(crate) fn keep_packed(room: &mut [u64], head: PackedHead, numbers: &[u64]) -
 // Sets the replies of a caller's lines after its first `done`, in order.
 fn set_each(replies: &mut Replies, caller: u32, done: u32, heads: &[PackedHead], numbers: &[u64])
     requires packed { ArePacked heads.now numbers.now }
-    requires suit { SuitTheirLines replies.old.scripts caller done (unpacked_all heads.now numbers.now) }
+    requires suit { SuitTheirLines replies.old.scripts caller done
+        (unpacked_all heads.now numbers.now) }
     requires few { done + length heads.now < 2 ^ 32 }
     ensures { replies.new ≡ record replies.old {
       replies = with_replies replies.old.replies caller done (unpacked_all heads.now numbers.now);
@@ -257,7 +262,8 @@ impl PackedReplies {
     }
 
     /// Appends replies, in order. `AllocError` if memory runs out; then only the first of them were
-    /// appended. It takes a fixed time for each reply, unless the list has to move to larger memory.
+    /// appended. It takes a fixed time for each reply, unless the list has to move to larger
+    /// memory.
     pub fn append(&mut self, replies: &[BookReply]) -> Result<(), AllocError>
         ensures ok { OnOk result (self.new ≡ self.old ++ replies.now) }
         ensures err { OnErr result ((n : ℕ) × (self.new ≡ self.old ++ take n replies.now)) }
@@ -268,8 +274,8 @@ impl PackedReplies {
         Ok(())
     }
 
-    /// Appends the replies of another list. If memory runs out, nothing changes. An empty list takes
-    /// over the memory of the other one, and a list with replies copies them.
+    /// Appends the replies of another list. If memory runs out, nothing changes. An empty list
+    /// takes over the memory of the other one, and a list with replies copies them.
     pub(crate) fn append_packed(&mut self, more: PackedReplies) -> Result<(), AllocError>
         ensures ok { OnOk result (self.new ≡ self.old ++ more) }
         ensures err { OnErr result (self.new ≡ self.old) }

@@ -4,7 +4,8 @@ ghost use Rattle.std.specs.Prelude.{◌≡◌, ◌<◌, ◌+◌, ◌^◌, map, l
 ghost use Rattle.std.specs.Option.{IsSomeAnd};
 ghost use Rattle.md_book.specs.Suits.{Suits};
 ghost use Rattle.md_orders.specs.Scripts.{at_line};
-ghost use Rattle.md_report_replies.specs.Replies.{no_replies, reply_at, with_reply, with_replies, SuitTheirLines};
+ghost use Rattle.md_report_replies.specs.Replies.{no_replies, reply_at, with_reply, with_replies};
+ghost use Rattle.md_report_replies.specs.Replies.{SuitTheirLines};
 ghost use Rattle.md_report_replies.specs.Rooms.{unset_rooms, new_reply, reply_in};
 
 use crate::all_rooms::rooms_of_callers;
@@ -87,9 +88,9 @@ impl Replies {
         self.callers[caller as usize - 1].set(line as usize - 1, reply);
     }
 
-    /// Sets the replies of a caller's lines after its first `done`, in order. Each suits the command
-    /// of its line, and the lines are numbered below 2^32. It takes no memory, and a fixed time for
-    /// each reply.
+    /// Sets the replies of a caller's lines after its first `done`, in order. Each suits the
+    /// command of its line, and the lines are numbered below 2^32. It takes no memory, and a fixed
+    /// time for each reply.
     pub fn set_packed(&mut self, caller: u32, done: u32, replies: &PackedReplies)
         requires suit { SuitTheirLines self.old.scripts caller done replies.now }
         requires few { done + length replies.now < 2 ^ 32 }

@@ -1,6 +1,7 @@
 //! The replies of each caller's first lines, packed.
 
-ghost use Rattle.std.specs.Prelude.{◌≡◌, ◌≤◌, ◌++◌, [], Some, map, length, replicate, IfOk, OnOk, OnErr};
+ghost use Rattle.std.specs.Prelude.{◌≡◌, ◌≤◌, ◌++◌, [], Some, map, length, replicate, IfOk, OnOk};
+ghost use Rattle.std.specs.Prelude.{OnErr};
 ghost use Rattle.md_report_replies.specs.Packed.{unpacked_all, ArePacked};
 ghost use Rattle.md_orders.specs.Scripts.{list_of, with_list};
 
@@ -66,8 +67,8 @@ impl RepliesByCaller {
     }
 
     /// Adds the replies of a caller's next lines, in order. There is such a caller. Its first
-    /// replies are taken over without a copy, and later ones are copied behind them. `AllocError` if
-    /// memory runs out; then nothing changes.
+    /// replies are taken over without a copy, and later ones are copied behind them. `AllocError`
+    /// if memory runs out; then nothing changes.
     pub fn add(&mut self, caller: u32, replies: PackedReplies) -> Result<(), AllocError>
         requires from_1 { 1 ≤ caller }
         requires there { caller ≤ length self.old }

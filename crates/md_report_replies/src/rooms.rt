@@ -1,9 +1,12 @@
 //! The replies of one caller's lines, each in a head and a room of some numbers.
 
-ghost use Rattle.std.specs.Prelude.{◌≡◌, ◌<◌, ◌≤◌, ◌+◌, ◌*◌, ◌^◌, ◌++◌, Some, All, map, sum, length, take, drop, slice_get, slice_set, slice_index_or, IfOk, OnOk};
+ghost use Rattle.std.specs.Prelude.{◌≡◌, ◌<◌, ◌≤◌, ◌+◌, ◌*◌, ◌^◌, ◌++◌, Some, All, map, sum};
+ghost use Rattle.std.specs.Prelude.{length, take, drop, slice_get, slice_set, slice_index_or, IfOk};
+ghost use Rattle.std.specs.Prelude.{OnOk};
 ghost use Rattle.md_orders.specs.Records.{max_records};
 ghost use Rattle.md_book.specs.Suits.{IsPart};
-ghost use Rattle.md_report_replies.specs.Rooms.{room_of, FitsRoom, part_number, reply_in, parts_in, new_reply, starts_of, unset_rooms, KeepsAt};
+ghost use Rattle.md_report_replies.specs.Rooms.{room_of, FitsRoom, part_number, reply_in, parts_in};
+ghost use Rattle.md_report_replies.specs.Rooms.{new_reply, starts_of, unset_rooms, KeepsAt};
 
 use crate::packed::{PackedHead, keep_packed};
 use crate::parts::{part_in, part_number};

@@ -38,7 +38,10 @@ impl<T: Theory> Model for Field<T> {
 
     ghost view = { λ f. record {
       table = f.table.shared.table_id;
-      origin = record { shape = f.table.shared.key.shape; words = f.table.shared.key.words.value.items };
+      origin = record {
+        shape = f.table.shared.key.shape;
+        words = f.table.shared.key.words.value.items;
+      };
     } };
 
     ghost invariant = { λ f. (f.shape ≡ f.table.shared.key.shape)
@@ -61,7 +64,8 @@ impl<T: Theory> Field<T> {
     ) -> Result<(Field<T>, Pass<T>), AllocError>
         requires { (placed : List PlacedNode)
             × CanOpen T.meaning (record { shape = shape; words = words.items; placed = placed }) }
-        ensures field { IfOk result (λ r. r.0.origin ≡ record { shape = shape; words = words.items }) }
+        ensures field { IfOk result
+            (λ r. r.0.origin ≡ record { shape = shape; words = words.items }) }
         ensures pass { IfOk result (λ r. IsOf r.1 r.0 × (r.1.view ≡ first_pass shape)
             × (r.1.shares ≡ replicate 64 UNUSED)) }
     {
@@ -93,8 +97,10 @@ impl<T: Theory> Field<T> {
 
     pub(crate) fn into_table(self) -> Table<(), Known, Key, Ruled<T>, Global>
         ensures table { (result.shared.table_id ≡ self.table) × (result.shared.table_id.slots ≡ 0) }
-        ensures origin { record { shape = result.shared.key.shape; words = result.shared.key.words.value.items }
-            ≡ self.origin }
+        ensures origin { record {
+          shape = result.shared.key.shape;
+          words = result.shared.key.words.value.items;
+        } ≡ self.origin }
     {
         let Field { table, shape: _ } = self;
         table

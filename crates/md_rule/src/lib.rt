@@ -1,8 +1,8 @@
 //! A field of shared words under the machine's theorem, and the passes that step on it.
 //!
 //! A `Field` owns a table of atomic words, a `Pass` is a thread's right to step on it. Each step
-//! is one atomic operation and one event of the machine, and its contract says which. Where there is
-//! one lane, and so one pass, the words are the pass's own, and its steps are the same events.
+//! is one atomic operation and one event of the machine, and its contract says which. Where there
+//! is one lane, and so one pass, the words are the pass's own, and its steps are the same events.
 #![tactic(auto)]
 
 pub use certifying::Certifying;

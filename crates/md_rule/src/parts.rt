@@ -53,7 +53,8 @@ impl<T: Theory> Pass<T> {
           view = joined_part self.old.shape self.old.view other.view;
           shares = joined_shares other.view.lanes self.old.shares other.shares;
         } }
-        ensures step { JoinedInto T.meaning field.now.origin self.old.view other.view self.new.view }
+        ensures step { JoinedInto T.meaning field.now.origin self.old.view other.view
+            self.new.view }
     {
         let (seat, lanes, shares, _) = other.into_parts();
         join_seat::<Brand, T>(field, &mut self.seat, seat);
@@ -68,13 +69,16 @@ fn split_seat<K: Halving, T: Theory>(
     seat: &mut Seat<(), Known>,
 ) -> Seat<(), Known>
     requires field { seat.old.table_id ≡ field.now.table }
-    requires may { Splits {S = Unit {0}} (Shows T.meaning field.now.origin) seat.old.id seat.old.me.0
-        (record seat.old.me.0 { view = K.kept seat.old.me.0.view })
+    requires may { Splits {S = Unit {0}} (Shows T.meaning field.now.origin) seat.old.id
+        seat.old.me.0 (record seat.old.me.0 { view = K.kept seat.old.me.0.view })
         (record { view = K.given seat.old.me.0.view; joined = None; private = None }) }
-    ensures field { (seat.new.table_id ≡ seat.old.table_id) × (result.table_id ≡ seat.old.table_id) }
-    ensures kept { (seat.new.me.0.view ≡ K.kept seat.old.me.0.view) × (seat.new.me.1 ≡ seat.old.me.1) }
+    ensures field { (seat.new.table_id ≡ seat.old.table_id)
+        × (result.table_id ≡ seat.old.table_id) }
+    ensures kept { (seat.new.me.0.view ≡ K.kept seat.old.me.0.view)
+        × (seat.new.me.1 ≡ seat.old.me.1) }
     ensures given { (result.me.0.view ≡ K.given seat.old.me.0.view) × (result.me.1 ≡ []) }
-    ensures private { (seat.new.me.0.private ≡ seat.old.me.0.private) × (result.me.0.private ≡ None) }
+    ensures private { (seat.new.me.0.private ≡ seat.old.me.0.private)
+        × (result.me.0.private ≡ None) }
 {
     field.table.shared.split_seat::<Halves<K>>(seat)
 }
@@ -86,8 +90,8 @@ fn join_seat<K: Joining, T: Theory>(
 )
     requires field { (seat.old.table_id ≡ field.now.table) × (other.table_id ≡ field.now.table) }
     requires bare { other.me.1 ≡ [] }
-    requires may { JoinsViews {S = Unit {0}} (Shows T.meaning field.now.origin) seat.old.id seat.old.me.0
-        other.id other.me.0 (record {
+    requires may { JoinsViews {S = Unit {0}} (Shows T.meaning field.now.origin) seat.old.id
+        seat.old.me.0 other.id other.me.0 (record {
           view = K.joined seat.old.me.0.view other.me.0.view;
           joined = Some (record { one = seat.old.me.0.view; other = other.me.0.view });
           private = seat.old.me.0.private;
@@ -109,7 +113,8 @@ fn join_seat<K: Joining, T: Theory>(
 fn look<K: Looking, T: Theory>(field: &Field<T>, seat: &mut Seat<(), Known>)
     requires field { seat.old.table_id ≡ field.now.table }
     requires tells { (s : State (Unit {0}) Known)
-        → Seen (Shows T.meaning field.now.origin) seat.old.id seat.old.me.0 s → K.tells seat.old.me.0 }
+        → Seen (Shows T.meaning field.now.origin) seat.old.id seat.old.me.0 s
+        → K.tells seat.old.me.0 }
     ensures field { seat.new.table_id ≡ seat.old.table_id }
     ensures same { seat.new.me ≡ seat.old.me }
     ensures told { K.tells seat.old.me.0 }

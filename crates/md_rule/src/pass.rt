@@ -1,6 +1,7 @@
 //! A pass: a seat of the table, with its lanes.
 
-ghost use Rattle.std.specs.Prelude.{◌≡◌, ◌<◌, ◌↔◌, None, [], length, slice_index, replicate, IsTrue};
+ghost use Rattle.std.specs.Prelude.{◌≡◌, ◌<◌, ◌↔◌, None, [], length, slice_index, replicate};
+ghost use Rattle.std.specs.Prelude.{IsTrue};
 ghost use Rattle.md_machine.specs.Event.{first_pass};
 ghost use Rattle.md_machine.specs.clauses.passes.Alone.{HoldsAll};
 ghost use Rattle.md_rule_lanes.specs.declared.shares.TheConstants.{UNUSED};
@@ -71,7 +72,8 @@ impl<T: Theory> Pass<T> {
     }
 
     /// The numbers of its field. The contract also lends what every pass keeps: it holds at least
-    /// one of the field's lanes, and of each what `KeepsLanes` says. Constant time; it makes no step.
+    /// one of the field's lanes, and of each what `KeepsLanes` says. Constant time; it makes no
+    /// step.
     pub fn shape(&self) -> &Shape
         ensures shape { result.now ≡ self.now.shape }
         ensures lanes { AreLanes self.now.shape self.now.view.lanes }
@@ -99,8 +101,8 @@ impl<T: Theory> Pass<T> {
         self.lanes.at(place)
     }
 
-    /// Whether it holds all lanes of the field, which is its own. Takes time linear in the lanes. It
-    /// makes no step.
+    /// Whether it holds all lanes of the field, which is its own. Takes time linear in the lanes.
+    /// It makes no step.
     pub fn holds_all(&self, field: &Field<T>) -> bool
         requires { IsOf self.now field.now }
         ensures { IsTrue result ↔ HoldsAll field.now.origin.shape self.now.view }

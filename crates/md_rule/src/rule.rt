@@ -29,7 +29,8 @@ impl<T: Theory> TableRule<(), Known, Key> for Ruled<T> {
     ghost use Rattle.md_rule.specs.Private.{first_known};
     ghost use Rattle.md_rule.specs.Rule.{Shows};
 
-    ghost holds = { λ k. Shows T.meaning (record { shape = k.shape; words = k.words.value.items }) };
+    ghost holds = { λ k. Shows T.meaning
+        (record { shape = k.shape; words = k.words.value.items }) };
 
     ghost first = { λ k. first_known k.shape k.words.value };
 }
@@ -54,8 +55,8 @@ pub(crate) struct Tells<K> {
 impl<K: Telling> Play<(), Known> for Tells<K> {
     ghost use Rattle.std.specs.Prelude.{◌≡◌};
 
-    ghost then = { λ step me found now. K.tells found me.0.view now.0.view × (now.0.view.lanes ≡ me.0.view.lanes)
-        × (now.0.private ≡ me.0.private) × (now.1 ≡ me.1) };
+    ghost then = { λ step me found now. K.tells found me.0.view now.0.view
+        × (now.0.view.lanes ≡ me.0.view.lanes) × (now.0.private ≡ me.0.private) × (now.1 ≡ me.1) };
 }
 
 /// How the view of a pass is split. Each call picks it.

@@ -188,9 +188,10 @@ impl<T: Theory> Pass<T> {
         )
     }
 
-    /// Commits an attempt that is in progress, of any pass. This is the last step of its validation.
-    /// `from` is the status word of the attempt, which the pass has met. Since then the pass has
-    /// loaded each read of the attempt, or has stored it itself, and found that each stands.
+    /// Commits an attempt that is in progress, of any pass. This is the last step of its
+    /// validation. `from` is the status word of the attempt, which the pass has met. Since then the
+    /// pass has loaded each read of the attempt, or has stored it itself, and found that each
+    /// stands.
     ///
     /// Ok exactly if the word held the expected content, which is changed then. `Err` has what it
     /// held in its place; then nothing is changed. One atomic exchange.
@@ -250,10 +251,10 @@ impl<T: Theory> Pass<T> {
     }
 
     /// Takes a descriptor, of any pass, out of a counted word. Its attempt is decided. `value` is
-    /// what the word then holds: the slot's new value if the attempt was committed, and the value of
-    /// its old content if it was aborted. If the descriptor is an own one, the pass has met its
-    /// present attempt decided. Otherwise the pass has met the content, a status, the content again,
-    /// the slot, and the decided status, in this order (`MayUninstall`).
+    /// what the word then holds: the slot's new value if the attempt was committed, and the value
+    /// of its old content if it was aborted. If the descriptor is an own one, the pass has met its
+    /// present attempt decided. Otherwise the pass has met the content, a status, the content
+    /// again, the slot, and the decided status, in this order (`MayUninstall`).
     ///
     /// Ok exactly if the word held the expected content, which is changed then. `Err` has what it
     /// held in its place; then nothing is changed. The count is one more then. One atomic exchange.

@@ -3,7 +3,8 @@
 //! seat and the private words alone: what a pass keeps of its lanes is shown by the call that has
 //! it.
 
-ghost use Rattle.std.specs.Prelude.{◌≡◌, ◌≢◌, ◌==◌, ◌<◌, ℕ, MatchResult, length, slice_index, slice_set};
+ghost use Rattle.std.specs.Prelude.{◌≡◌, ◌≢◌, ◌==◌, ◌<◌, ℕ, MatchResult, length, slice_index};
+ghost use Rattle.std.specs.Prelude.{slice_set};
 ghost use prog.Atomic.{either};
 ghost use Rattle.md_words.specs.Layout.{words_of};
 ghost use Rattle.atomic_table.specs.Table.{State, Seen};

@@ -40,7 +40,8 @@ impl Living {
 ///
 /// Goes along each bucket and each queue once, and along 8 queues side by side, since each step
 /// waits for memory. Takes time linear in the heads and the nodes, and 16 bytes for each pair and 8
-/// for each value, bucket and queue. Meanwhile it keeps 8 lists, none longer than the longest queue.
+/// for each value, bucket and queue. Meanwhile it keeps 8 lists, none longer than the longest
+/// queue.
 pub fn gather<W: FieldWords>(alloc: Global, shape: &Shape, words: &W) -> Result<Living, AllocError>
     requires { IsStoreField shape.now (W.words words.now) }
     ensures { IfOk result (λ living. LivesIn shape.now (W.words words.now) living) }

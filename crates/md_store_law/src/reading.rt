@@ -52,8 +52,9 @@ pub fn read_off_from<W: FieldWords>(
     Ok(contents)
 }
 
-/// The maps from number `first` on, of those contents that `read_off_from` gives: the other maps and
-/// all queues are empty. Every count is even. `first` is any number. `AllocError` if memory runs out.
+/// The maps from number `first` on, of those contents that `read_off_from` gives: the other maps
+/// and all queues are empty. Every count is even. `first` is any number. `AllocError` if memory
+/// runs out.
 ///
 /// Takes time linear in the buckets and the nodes of the maps that it reads, and in the number of
 /// maps and queues, and one sort by std of each map's pairs. It reads no head of another map, and

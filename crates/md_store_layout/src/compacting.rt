@@ -34,11 +34,11 @@ pub fn compact(
     lay_living(words, shape, living)
 }
 
-/// Lays what was gathered from a field as a new field, as `compact` does. The old words may be gone.
-/// `shape` is that of the old field. Returns it with as many base nodes as the contents need, which
-/// must be in range, and the new words. They are made in the memory of `words`, which may be any:
-/// those of the old field save the system from clearing fresh memory. `AllocError` if memory runs
-/// out.
+/// Lays what was gathered from a field as a new field, as `compact` does. The old words may be
+/// gone. `shape` is that of the old field. Returns it with as many base nodes as the contents need,
+/// which must be in range, and the new words. They are made in the memory of `words`, which may be
+/// any: those of the old field save the system from clearing fresh memory. `AllocError` if memory
+/// runs out.
 ///
 /// Takes time linear in the words and the nodes.
 pub fn lay_living(

@@ -1,7 +1,7 @@
-//! Bodies for tests of the store, and what a body that may make any calls tells of a stop. The tests
-//! of md_store_tests run them over the store beside a store for one thread, and on several threads.
-//! The meanings of the bodies hold of all acts, so no clause says what they do. The tests compare
-//! their replies and the contents that they leave.
+//! Bodies for tests of the store, and what a body that may make any calls tells of a stop. The
+//! tests of md_store_tests run them over the store beside a store for one thread, and on several
+//! threads. The meanings of the bodies hold of all acts, so no clause says what they do. The tests
+//! compare their replies and the contents that they leave.
 #![tactic(auto)]
 
 pub use counts::Count;

@@ -6,7 +6,7 @@ use Rattle.md_history.specs.declared.acts.Op.TheVariants as op
 use Rattle.md_history.specs.declared.acts.Reply.{Reply}
 use Rattle.md_history.specs.declared.acts.Reply.TheVariants.{Value, Flag, Nothing, Line}
 use Rattle.md_history.specs.Script.{Script, done, call}
-use Rattle.md_history_loops.specs.Loops.{for_each}
+use Rattle.md_history_loops.specs.Loops.{try_fold}
 use Rattle.medley_bench_micro.specs.declared.draws.Burst.{Burst}
 use Rattle.medley_bench_micro.specs.declared.draws.Call.{Call}
 use Rattle.medley_bench_micro.specs.declared.draws.Call.TheVariants.{Get, Insert, Remove}
@@ -30,7 +30,7 @@ abbrev pub count_hit : Call → ℕ → Script ℕ
 count_hit c before = call (op_of c) (λ reply. done (if is_hit reply then before + 1 else before))
 
 abbrev pub script_of : Burst → Script ℕ
-script_of b = for_each count_hit (take b.count b.calls) 0
+script_of b = try_fold count_hit (take b.count b.calls) 0
 
 -- a store with one map and no queue
 pub record HasOneMap (s : Shape) : Type 0 where

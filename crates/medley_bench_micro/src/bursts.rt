@@ -2,7 +2,7 @@
 
 ghost use Rattle.std.specs.Prelude.{◌≡◌, ◌+◌, ◌<◌, ◌≤◌, IfOk, if◌then◌else◌, length, None};
 ghost use Rattle.md_history.specs.Playing.{PlaysPart};
-ghost use Rattle.md_history_loops.specs.Loops.{for_each};
+ghost use Rattle.md_history_loops.specs.Loops.{try_fold};
 ghost use Rattle.medley_bench_micro.specs.declared.draws.TheConstants.{MOST};
 ghost use Rattle.medley_bench_micro.specs.Bursts.{count_hit};
 
@@ -41,7 +41,7 @@ fn count_hits<T: TxCalls>(t: &mut T, calls: &[Call]) -> Result<usize, Stop>
     requires going { T.stop t.old ≡ None }
     requires map { 0 < T.maps (T.kept t.old) }
     requires few { length calls.now ≤ MOST }
-    ensures plays { PlaysPart (for_each count_hit calls.now 0) result T.acts T.stop t.old t.new }
+    ensures plays { PlaysPart (try_fold count_hit calls.now 0) result T.acts T.stop t.old t.new }
     ensures kept { T.kept t.new ≡ T.kept t.old }
 {
     let mut hits = 0;

@@ -81,8 +81,9 @@ pub use md_history::{Act, Acts, Line, MAX_LINE, Op, Reply};
 /// For contracts: the entries of a history with their fates, and a pass as it stood.
 pub use md_history::{Entry, Fate, Front};
 
-/// The lines of callers, as lists or by a trait, and the laws of their bodies; a call that plays all
-/// lines in threads, and its result: the replies by caller and line, the contents and the fronts.
+/// The lines of callers, as lists or by a trait, and the laws of their bodies; a call that plays
+/// all lines in threads, and its result: the replies by caller and line, the contents and the
+/// fronts.
 pub use md_many::{LawfulBody, Lines, LinesByCaller, Many, run_lines};
 
 /// Lines whose laws go by which of them were played before, and the call that plays them.

@@ -34,8 +34,8 @@ pub(super) fn reads<R: Abort + AllocGlobal, S: Source>(
     same(rt, &log.as_slice(), &want);
 }
 
-// What so many writes answer: the number of bytes that each takes and a bar, `!` at a fault. A write
-// goes on where the last one stopped.
+// What so many writes answer: the number of bytes that each takes and a bar, `!` at a fault. A
+// write goes on where the last one stopped.
 fn write_log<R: Abort + AllocGlobal, S: Sink>(
     rt: &R,
     sink: &mut S,

@@ -54,8 +54,8 @@ fn is_cancel(rt: &impl Abort, made: &Scripts, line: u32, of: u32) {
     same(rt, &(line, cancelled(made, line)), &want);
 }
 
-// A cancel at a line after 32,767 shows a draw as it is: it names the order of the line whose number
-// is one more.
+// A cancel at a line after 32,767 shows a draw as it is: it names the order of the line whose
+// number is one more.
 fn has_draws(rt: &impl Abort, made: &Scripts) {
     is_cancel(rt, made, 32_770, 10_467);
     is_cancel(rt, made, 32_771, 24_770);

@@ -19,7 +19,8 @@ fn is_told<R: Abort + AllocGlobal>(rt: &R, callers: u32, text: &str, want: &str)
 }
 
 // Reads files, and compares what is read with what is told. There is a sign `|` between two files,
-// and each is the text of its bytes, the sign `=`, and what is told of it: the commands or the fault.
+// and each is the text of its bytes, the sign `=`, and what is told of it: the commands or the
+// fault.
 fn read_as_told<R: Abort + AllocGlobal>(rt: &R, callers: u32, files: &str)
     requires { (1 ≤ callers) × (callers ≤ MAX_CALLER) }
 {

@@ -1,4 +1,5 @@
-//! Files that threads read in parts. A file is read so from 64 KiB on, and blank lines make it long.
+//! Files that threads read in parts. A file is read so from 64 KiB on, and blank lines make it
+//! long.
 
 ghost use Rattle.std.specs.Prelude.{◌≤◌};
 ghost use Rattle.md_book.specs.declared.limits.TheConstants.{MAX_CALLER};
@@ -25,8 +26,9 @@ fn add_lines(rt: &impl Abort, text: &mut Vec<u8>, place: usize, lines: &str) {
     extend(rt, text, lines.as_bytes());
 }
 
-// A start, and the same lines at each of some places and at the end. From one place to the next they
-// begin seven bytes earlier than there, and after twelve places again where they did at the first.
+// A start, and the same lines at each of some places and at the end. From one place to the next
+// they begin seven bytes earlier than there, and after twelve places again where they did at the
+// first.
 fn text_of<R: Abort + AllocGlobal>(
     rt: &R,
     start: &str,

@@ -1,10 +1,12 @@
 //! The lines of callers whose replies are packed.
 
-ghost use Rattle.std.specs.Prelude.{◌≡◌, ◌++◌, ◌≤◌, ◌<◌, ◌+◌, ◌/◌, ◌%◌, ◌^◌, length, take, drop, min, slice_index_or, sum_by, flat_map, OnOk};
+ghost use Rattle.std.specs.Prelude.{◌≡◌, ◌++◌, ◌≤◌, ◌<◌, ◌+◌, ◌/◌, ◌%◌, ◌^◌, length, take, drop};
+ghost use Rattle.std.specs.Prelude.{min, slice_index_or, sum_by, flat_map, OnOk};
 ghost use Rattle.md_book.specs.Book.{padded};
 ghost use Rattle.md_book.specs.declared.limits.TheConstants.{MAX_PARTS};
 ghost use Rattle.md_report_replies.specs.Packed.{size_of, parts_of, unpacked};
-ghost use Rattle.md_report.specs.Report.{part_text, filled_text, reply_text, line_text, lines_text, callers_text_after};
+ghost use Rattle.md_report.specs.Report.{part_text, filled_text, reply_text, line_text, lines_text};
+ghost use Rattle.md_report.specs.Report.{callers_text_after};
 ghost use Rattle.md_report.specs.declared.text.TheConstants.{PARTS, REPLY};
 ghost use Rattle.md_report.specs.declared.text.line_buffer.TheConstants.{SIZE};
 
@@ -90,8 +92,8 @@ fn start_after(heads: &[PackedHead], before: usize) -> usize
     start
 }
 
-/// Adds the lines of a caller after its first `before`, which end before line 2^32. A line without a
-/// reply has no text. The heads before these lines are passed over once, and then each line's
+/// Adds the lines of a caller after its first `before`, which end before line 2^32. A line without
+/// a reply has no text. The heads before these lines are passed over once, and then each line's
 /// numbers begin where those of the line before end.
 pub(crate) fn lines(
     out: &mut Vec<u8>,

@@ -100,7 +100,8 @@ fn held(pass: &Pass<CellTheory>) -> (u32, u64) {
     (lanes, bits)
 }
 
-// Splits a pass that has several lanes. Those that it keeps and those that it gives have these bits.
+// Splits a pass that has several lanes. Those that it keeps and those that it gives have these
+// bits.
 fn halved(
     rt: &impl Abort,
     field: &Field<CellTheory>,

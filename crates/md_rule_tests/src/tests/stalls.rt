@@ -245,8 +245,8 @@ fn slot_and_cell(field: &Field<CellTheory>, pass: &mut Pass<CellTheory>) -> [(u3
     ]
 }
 
-// A transaction stalls in a plain word. Whether its install won, and what its slot and the word hold
-// then.
+// A transaction stalls in a plain word. Whether its install won, and what its slot and the word
+// hold then.
 fn stalled(
     field: &Field<CellTheory>,
     pass: &mut Pass<CellTheory>,
@@ -261,8 +261,8 @@ fn stalled(
     Some((won, slot_and_cell(field, pass)))
 }
 
-// A transaction inserts a value into a plain word, and is committed if `decides` says so. Whether each
-// step won.
+// A transaction inserts a value into a plain word, and is committed if `decides` says so. Whether
+// each step won.
 fn inserted(
     field: &Field<CellTheory>,
     pass: &mut Pass<CellTheory>,

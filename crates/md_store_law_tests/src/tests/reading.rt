@@ -109,8 +109,8 @@ fn a_used_field_is_read_off(rt: HostRuntime) {
     assert_contents(&rt, &contents, 5, &[(6, 50), (134, 54)], &[16, 18]);
 }
 
-// The words of the field after it was compacted. Nodes 1 to 5 are the dummy, keys 6 and 134, and the
-// values 16 and 18.
+// The words of the field after it was compacted. Nodes 1 to 5 are the dummy, keys 6 and 134, and
+// the values 16 and 18.
 fn compacted_words(alloc: Global) -> Result<Vec<u64>, AllocError> {
     let row = [
         (7, 4 * UNIT),

@@ -1,8 +1,8 @@
 //! Rows of a day: a command, the sign `|`, and the reply to it.
 //!
 //! A command is written as in an order file, with spaces in place of commas and without its caller.
-//! An order has its name, CALLER:LINE, and the number of places stands behind `F` and `K`. A reply is
-//! written as in a report.
+//! An order has its name, CALLER:LINE, and the number of places stands behind `F` and `K`. A reply
+//! is written as in a report.
 
 use md_book::{BookReply, Command, MAX_PARTS, Part, Side, order_name};
 

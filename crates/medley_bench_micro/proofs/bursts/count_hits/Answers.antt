@@ -1,7 +1,7 @@
 use Rattle.std.proofs.Common.{◌∙◌, arith, refl}
 use Rattle.std.proofs.lemmas.Result.{err_from_is_err_and}
 use Rattle.md_history.specs.ScriptLaws.{at-begin}
-use Rattle.md_history_loops.specs.Loops.{for_each}
+use Rattle.md_history_loops.specs.Loops.{try_fold}
 use Rattle.md_history_loops.proofs.Looping.{at-step, at-broke_step, at-end}
 use Rattle.medley_bench_micro.specs.declared.draws.Call.TheVariants.{Get}
 use Rattle.medley_bench_micro.specs.Bursts.{count_hit}
@@ -9,7 +9,7 @@ use Rattle.medley_bench_micro.proofs.bursts.count_hits.Goals as goal
 
 pub loop-i-init : goal.loop-i-init
 loop-i-init g c = record {
-  at = at-begin (for_each count_hit c.args.calls.now 0) (g.T.TxCalls.acts c.args.t.now);
+  at = at-begin (try_fold count_hit c.args.calls.now 0) (g.T.TxCalls.acts c.args.t.now);
   few = omega arith;
   going = c.requires.going;
   kept = refl;
