@@ -1,6 +1,6 @@
 -- What filling does to the maps and queues, as a script.
 use Rattle.std.specs.Prelude.{ℕ, zero, suc, ◌+◌, ◌-◌, ◌==◌, ◌≤◌, if◌then◌else◌, min, replicate, slice_set}
-use Rattle.md_history.specs.declared.acts.Op.TheVariants.{Get, Insert, Remove, Dequeue, Front}
+use Rattle.md_history.specs.declared.acts.Op.TheVariants.{Get, Remove, Put, Dequeue, Front}
 use Rattle.md_history.specs.Script.{Script, done, call, bind}
 use Rattle.md_history.specs.Branches.{by_value}
 use Rattle.md_book.specs.declared.commands.Side.{Side}
@@ -27,19 +27,20 @@ abbrev pub taker_sums : Side → ℕ
 taker_sums Buy = SOLD
 taker_sums Sell = BOUGHT
 
--- the order at the front leaves its queue if all that it has left is taken; otherwise it is put back with less
-abbrev pub put_back : ℕ → ℕ → ℕ → ℕ → Script (Unit {0})
-put_back level name order taken =
+-- the order at the front is removed, and its place with it, if all that it has left is taken; otherwise it has so much
+-- less left
+abbrev pub take_out : ℕ → ℕ → ℕ → ℕ → Script (Unit {0})
+take_out level name order taken =
     if left_in order == taken
-    then call (Dequeue level) (λ _. done tt)
-    else call (Insert OPEN_ORDERS name (order - taken)) (λ _. done tt)
+    then call (Remove OPEN_ORDERS name) (λ _. call (Dequeue level) (λ _. done tt))
+    else call (Put OPEN_ORDERS name (order - taken)) (λ _. done tt)
 
 -- so much is taken from the order at the front, and its account has bought or sold it
 abbrev pub take_from : Side → ℕ → ℕ → ℕ → ℕ → Script Look
 take_from side level name order taken =
-    call (Remove OPEN_ORDERS name) (λ _. bind (put_back level name order taken) (λ _.
+    bind (take_out level name order taken) (λ _.
     bind (raise (resting_sums side) (account_in order) taken) (λ _.
-    done (Live (record { name = name; taken = taken })))))
+    done (Live (record { name = name; taken = taken }))))
 
 -- a look at the front place: nobody, or a dead place, which is passed, or an order from which is taken
 abbrev pub look_front : Side → ℕ → ℕ → Script Look

@@ -27,7 +27,7 @@ places_looked acts = count_by (λ a. finds_place a.op a.reply) acts
 
 -- what a fill reads, writes and takes at most if it looks at so many places
 abbrev pub bounds_for : ℕ → Bounds
-bounds_for places = record { reads = 3 * places + 3; writes = 5 * places + 10; nodes = places + 3 }
+bounds_for places = record { reads = 2 * places + 4; writes = 5 * places + 10; nodes = places + 3 }
 
 -- a fill is few acts for the places that it looks at, and so for those that it may look at
 abbrev pub FillsAreFew : Type 0

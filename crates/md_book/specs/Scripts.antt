@@ -1,6 +1,6 @@
 -- What commands do to the maps and queues, as scripts: all but filling.
 use Rattle.std.specs.Prelude.{ℕ, ◌+◌, ◌-◌, ◌^◌, ◌==◌, if◌then◌else◌, min, List, [], take, unwrap_or}
-use Rattle.md_history.specs.declared.acts.Op.TheVariants.{Get, Insert, Remove, Enqueue}
+use Rattle.md_history.specs.declared.acts.Op.TheVariants.{Get, Insert, Remove, Put, Enqueue}
 use Rattle.md_history.specs.declared.acts.Reply.{Reply}
 use Rattle.md_history.specs.declared.acts.Reply.TheVariants.{Value, Flag, Nothing, Line}
 use Rattle.md_history.specs.Script.{Script, done, call, bind}
@@ -23,17 +23,17 @@ line_values (Flag b) = []
 line_values Nothing = []
 line_values (Line l) = take l.count l.values
 
--- a key gets a value, unless that is 0
-abbrev pub put : ℕ → ℕ → ℕ → Script (Unit {0})
-put m k v = if v == 0 then done tt else call (Insert m k v) (λ _. done tt)
-
 -- a key's value is replaced by one that is larger, up to 2^64 - 1
 abbrev pub raise : ℕ → ℕ → ℕ → Script (Unit {0})
-raise m k by = call (Remove m k) (λ r. put m k (min (value_or_0 r + by) (2 ^ 64 - 1)))
+raise m k by = call (Get m k) (λ r. call (Put m k (min (value_or_0 r + by) (2 ^ 64 - 1))) (λ _. done tt))
+
+-- a key gets a value, or is removed if that is 0
+abbrev pub put_or_remove : ℕ → ℕ → ℕ → Script (Unit {0})
+put_or_remove m k v = if v == 0 then call (Remove m k) (λ _. done tt) else call (Put m k v) (λ _. done tt)
 
 -- a key's value is replaced by one that is smaller, down to 0
 abbrev pub lower : ℕ → ℕ → ℕ → Script (Unit {0})
-lower m k by = call (Remove m k) (λ r. put m k (value_or_0 r - by))
+lower m k by = call (Get m k) (λ r. put_or_remove m k (value_or_0 r - by))
 
 -- an order is added to the open ones, its name to its level's queue, and its quantity to the level's depth
 abbrev pub place : ℕ → ℕ → Side → ℕ → ℕ → Script BookReply

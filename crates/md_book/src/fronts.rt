@@ -3,7 +3,7 @@
 ghost use Rattle.std.specs.Prelude.{◌≡◌, ◌<◌, ◌≤◌, None, IfOk, IfErr};
 ghost use Rattle.md_history.specs.Playing.{PlaysPart};
 ghost use Rattle.md_book.specs.Stands.{left_in};
-ghost use Rattle.md_book.specs.Filling.{put_back, take_from, look_front, resting_sums, taker_sums, TakesAtMost};
+ghost use Rattle.md_book.specs.Filling.{take_out, take_from, look_front, resting_sums, taker_sums, TakesAtMost};
 
 use crate::commands::{Part, Side};
 use crate::maps::{BOUGHT, MAPS, OPEN_ORDERS, SOLD};
@@ -44,9 +44,9 @@ impl Side {
     }
 }
 
-/// Dequeues the order at the front if all that it has left is taken; otherwise puts it back with
-/// less.
-fn put_back<T: TxCalls>(
+/// Removes the order at the front, and its place with it, if all that it has left is taken.
+/// Otherwise the order has so much less left.
+fn take_out<T: TxCalls>(
     t: &mut T,
     level: u32,
     name: u64,
@@ -57,13 +57,14 @@ fn put_back<T: TxCalls>(
     requires going { T.stop t.old ≡ None }
     requires maps { MAPS ≤ T.maps (T.kept t.old) }
     requires level { level < T.queues (T.kept t.old) }
-    ensures plays { PlaysPart (put_back level name order taken) result T.acts T.stop t.old t.new }
+    ensures plays { PlaysPart (take_out level name order taken) result T.acts T.stop t.old t.new }
     ensures kept { T.kept t.new ≡ T.kept t.old }
 {
     if left_in(order) == taken {
+        t.remove(OPEN_ORDERS, name)?;
         t.dequeue(level)?;
     } else {
-        t.insert(OPEN_ORDERS, name, order - taken as u64)?;
+        t.put(OPEN_ORDERS, name, order - taken as u64)?;
     }
     Ok(())
 }
@@ -86,8 +87,7 @@ fn take_from<T: TxCalls>(
     ensures kept { T.kept t.new ≡ T.kept t.old }
     ensures taken { IfOk result (TakesAtMost taken) }
 {
-    t.remove(OPEN_ORDERS, name)?;
-    put_back(t, level, name, order, taken)?;
+    take_out(t, level, name, order, taken)?;
     raise(t, side.resting_sums(), account_in(order), taken as u64)?;
     Ok(Look::Live(Part { name, taken }))
 }

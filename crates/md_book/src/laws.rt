@@ -32,7 +32,7 @@ pub fn commands_are_small()
     ensures { CommandsAreSmall }
 {}
 
-/// A fill that looks at p places reads at most 3p + 3 words, writes at most 7p + 11 words and takes
+/// A fill that looks at p places reads at most 2p + 4 words, writes at most 5p + 10 words and takes
 /// at most p + 3 nodes.
 pub fn fills_are_few()
     ensures { FillsAreFew }

@@ -25,10 +25,10 @@ pub const MAX_PRICE: u32 = 1_000;
 pub const MAX_QUANTITY: u32 = 1_000_000;
 
 /// The most words that a command reads.
-pub const COMMAND_READS: u32 = 65;
+pub const COMMAND_READS: u32 = 39;
 
 /// The most words that a command writes.
 pub const COMMAND_WRITES: u32 = 82;
 
 /// The most nodes that a command takes.
-pub const COMMAND_NODES: u32 = 16;
+pub const COMMAND_NODES: u32 = 15;

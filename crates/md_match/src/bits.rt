@@ -48,12 +48,12 @@ fn set_bit<T: TxCalls>(t: &mut T, key: u64, bit: u32) -> Result<bool, Stop>
     ensures plays { PlaysPart (set_bit key bit) result T.acts T.stop t.old t.new }
     ensures kept { T.kept t.new ≡ T.kept t.old }
 {
-    let word = t.remove(PRICE_BITS, key)?.unwrap_or(0);
-    t.insert(PRICE_BITS, key, word | 1 << bit)?;
+    let word = t.get(PRICE_BITS, key)?.unwrap_or(0);
+    t.put(PRICE_BITS, key, word | 1 << bit)?;
     Ok(word == 0)
 }
 
-/// Puts the word at a key back, unless it is 0. Returns whether it is.
+/// Gives a key a word, or removes it if that is 0. Returns whether it is.
 fn put_word<T: TxCalls>(t: &mut T, key: u64, word: u64) -> Result<bool, Stop>
     requires going { T.stop t.old ≡ None }
     requires maps { MATCH_MAPS ≤ T.maps (T.kept t.old) }
@@ -61,9 +61,10 @@ fn put_word<T: TxCalls>(t: &mut T, key: u64, word: u64) -> Result<bool, Stop>
     ensures kept { T.kept t.new ≡ T.kept t.old }
 {
     if word == 0 {
+        t.remove(PRICE_BITS, key)?;
         return Ok(true);
     }
-    t.insert(PRICE_BITS, key, word)?;
+    t.put(PRICE_BITS, key, word)?;
     Ok(false)
 }
 
@@ -75,12 +76,12 @@ fn clear_bit<T: TxCalls>(t: &mut T, key: u64, bit: u32) -> Result<bool, Stop>
     ensures plays { PlaysPart (clear_bit key bit) result T.acts T.stop t.old t.new }
     ensures kept { T.kept t.new ≡ T.kept t.old }
 {
-    let word = t.remove(PRICE_BITS, key)?.unwrap_or(0);
+    let word = t.get(PRICE_BITS, key)?.unwrap_or(0);
     put_word(t, key, word & !(1 << bit))
 }
 
-/// Sets the bit of a level that has depth now. Returns whether its side had no depth before.
-pub(crate) fn open_level<T: TxCalls>(t: &mut T, level: u64) -> Result<bool, Stop>
+/// Sets the bit of a level that has depth now.
+pub(crate) fn open_level<T: TxCalls>(t: &mut T, level: u64) -> Result<(), Stop>
     requires low { level < 4096 }
     requires going { T.stop t.old ≡ None }
     requires maps { MATCH_MAPS ≤ T.maps (T.kept t.old) }
@@ -89,13 +90,14 @@ pub(crate) fn open_level<T: TxCalls>(t: &mut T, level: u64) -> Result<bool, Stop
 {
     let was_empty = set_bit(t, key_of(level), bit_of(level))?;
     if !was_empty {
-        return Ok(false);
+        return Ok(());
     }
-    set_bit(t, summary_of(level), word_of(level))
+    set_bit(t, summary_of(level), word_of(level))?;
+    Ok(())
 }
 
-/// Clears the bit of a level that has no depth any more. Returns whether its side has none left.
-pub(crate) fn close_level<T: TxCalls>(t: &mut T, level: u64) -> Result<bool, Stop>
+/// Clears the bit of a level that has no depth any more.
+pub(crate) fn close_level<T: TxCalls>(t: &mut T, level: u64) -> Result<(), Stop>
     requires low { level < 4096 }
     requires going { T.stop t.old ≡ None }
     requires maps { MATCH_MAPS ≤ T.maps (T.kept t.old) }
@@ -104,7 +106,8 @@ pub(crate) fn close_level<T: TxCalls>(t: &mut T, level: u64) -> Result<bool, Sto
 {
     let is_empty = clear_bit(t, key_of(level), bit_of(level))?;
     if !is_empty {
-        return Ok(false);
+        return Ok(());
     }
-    clear_bit(t, summary_of(level), word_of(level))
+    clear_bit(t, summary_of(level), word_of(level))?;
+    Ok(())
 }

@@ -12,23 +12,23 @@ use md_book::{DEPTHS, Side};
 use md_history::{Stop, TxCalls};
 
 /// Adds to a level's depth, at most up to the largest number. If it had none, it opens the level.
-pub(crate) fn raise_level<T: TxCalls>(t: &mut T, level: u64, by: u64) -> Result<bool, Stop>
+pub(crate) fn raise_level<T: TxCalls>(t: &mut T, level: u64, by: u64) -> Result<(), Stop>
     requires low { level < 4096 }
     requires going { T.stop t.old ≡ None }
     requires maps { MATCH_MAPS ≤ T.maps (T.kept t.old) }
     ensures plays { PlaysPart (raise_level level by) result T.acts T.stop t.old t.new }
     ensures kept { T.kept t.new ≡ T.kept t.old }
 {
-    let before = t.remove(DEPTHS, level)?.unwrap_or(0);
-    t.insert(DEPTHS, level, before.saturating_add(by))?;
+    let before = t.get(DEPTHS, level)?.unwrap_or(0);
+    t.put(DEPTHS, level, before.saturating_add(by))?;
     if before != 0 {
-        return Ok(false);
+        return Ok(());
     }
     open_level(t, level)
 }
 
-/// Puts what is left of a level's depth back. If that is nothing, it closes the level.
-fn put_depth<T: TxCalls>(t: &mut T, level: u64, depth: u64) -> Result<bool, Stop>
+/// Gives a level a depth. If that is nothing, it removes the one that stands, and closes the level.
+fn put_depth<T: TxCalls>(t: &mut T, level: u64, depth: u64) -> Result<(), Stop>
     requires low { level < 4096 }
     requires going { T.stop t.old ≡ None }
     requires maps { MATCH_MAPS ≤ T.maps (T.kept t.old) }
@@ -36,21 +36,22 @@ fn put_depth<T: TxCalls>(t: &mut T, level: u64, depth: u64) -> Result<bool, Stop
     ensures kept { T.kept t.new ≡ T.kept t.old }
 {
     if depth == 0 {
+        t.remove(DEPTHS, level)?;
         return close_level(t, level);
     }
-    t.insert(DEPTHS, level, depth)?;
-    Ok(false)
+    t.put(DEPTHS, level, depth)?;
+    Ok(())
 }
 
 /// Takes off a level's depth, at most down to 0. If nothing is left, it closes the level.
-pub(crate) fn lower_level<T: TxCalls>(t: &mut T, level: u64, by: u64) -> Result<bool, Stop>
+pub(crate) fn lower_level<T: TxCalls>(t: &mut T, level: u64, by: u64) -> Result<(), Stop>
     requires low { level < 4096 }
     requires going { T.stop t.old ≡ None }
     requires maps { MATCH_MAPS ≤ T.maps (T.kept t.old) }
     ensures plays { PlaysPart (lower_level level by) result T.acts T.stop t.old t.new }
     ensures kept { T.kept t.new ≡ T.kept t.old }
 {
-    let before = t.remove(DEPTHS, level)?.unwrap_or(0);
+    let before = t.get(DEPTHS, level)?.unwrap_or(0);
     put_depth(t, level, before.saturating_sub(by))
 }
 

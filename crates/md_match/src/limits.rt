@@ -5,10 +5,10 @@
 pub const MAX_LOOKS: usize = 4;
 
 /// The most words that a matching command reads.
-pub const MATCH_READS: u32 = 39;
+pub const MATCH_READS: u32 = 40;
 
 /// The most words that a matching command writes.
-pub const MATCH_WRITES: u32 = 99;
+pub const MATCH_WRITES: u32 = 93;
 
 /// The most nodes that a matching command takes.
 pub const MATCH_NODES: u32 = 18;

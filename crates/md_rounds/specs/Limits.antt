@@ -35,9 +35,9 @@ pub record LimitsOfBooks : Type 0 where
   pub accounts : MAX_ACCOUNT ≡ 9999
   pub prices : MAX_PRICE ≡ 1000
   pub quantities : MAX_QUANTITY ≡ 1000000
-  pub reads : COMMAND_READS ≡ 65
+  pub reads : COMMAND_READS ≡ 39
   pub writes : COMMAND_WRITES ≡ 82
-  pub nodes : COMMAND_NODES ≡ 16
+  pub nodes : COMMAND_NODES ≡ 15
   pub maps : MAPS ≡ 4
   pub levels : LEVELS ≡ 2000
 

@@ -4,7 +4,7 @@ use Rattle.std.specs.Prelude.{is_none}
 use Rattle.std.specs.FinMap as fin
 use Rattle.std.proofs.lemmas.Bool.{cases_eq}
 use Rattle.std.proofs.lemmas.List.{length-set, get_or-set_same, get_or-set_other}
-use Rattle.md_history.specs.declared.acts.Op.TheVariants.{Insert, Remove, Enqueue, Dequeue}
+use Rattle.md_history.specs.declared.acts.Op.TheVariants.{Insert, Remove, Put, Enqueue, Dequeue}
 use Rattle.md_history.specs.State.{State, Table, map_at, queue_at, with_map, with_queue, after}
 use Rattle.md_history.proofs.Keys.{get-insert_same, get-insert_other, get-remove_same, get-remove_other}
 
@@ -50,6 +50,10 @@ insert-sets s m k v below absent =
 pub remove-sets : (s : State) (m k : ℕ) → m < length s.maps → Sets s (after s (Remove m k)) m k None
 remove-sets s m k below = with_map-sets s m k (fin.remove (map_at s m) k) None below (get-remove_same (map_at s m) k) (get-remove_other (map_at s m) k)
 
+-- a key's value is set
+pub put-sets : (s : State) (m k v : ℕ) → m < length s.maps → Sets s (after s (Put m k v)) m k (Some v)
+put-sets s m k v below = with_map-sets s m k (fin.insert (map_at s m) k v) (Some v) below (get-insert_same (map_at s m) k v) (get-insert_other (map_at s m) k v)
+
 -- a queue is replaced
 with_queue-lines : (s : State) (q : ℕ) (now : List ℕ) → q < length s.queues → Lines s (with_queue s q now) q now
 with_queue-lines s q now below = record {
@@ -66,20 +70,6 @@ enqueue-lines s q v below = with_queue-lines s q (queue_at s q ++ v ∷ []) belo
 -- the first value is dequeued
 pub dequeue-lines : (s : State) (q : ℕ) → q < length s.queues → Lines s (after s (Dequeue q)) q (drop 1 (queue_at s q))
 dequeue-lines s q below = with_queue-lines s q (drop 1 (queue_at s q)) below
-
--- nothing but what already stands
-pub sets-same : (s : State) (m k : ℕ) (now : Option ℕ) → fin.get (map_at s m) k ≡ now → Sets s s m k now
-sets-same s m k now here = record { maps = refl; queues = refl; here = here; other_keys = λ _ _. refl; other_maps = λ _ _. refl }
-
--- one change after another at the same key
-pub sets-again : {s t u : State} {m k : ℕ} {now then : Option ℕ} → Sets s t m k now → Sets t u m k then → Sets s u m k then
-sets-again f g = record {
-  maps = g.maps ∙ f.maps;
-  queues = g.queues ∙ f.queues;
-  here = g.here;
-  other_keys = λ q h. g.other_keys q h ∙ f.other_keys q h;
-  other_maps = λ j h. g.other_maps j h ∙ f.other_maps j h;
-}
 
 -- what no change of the other kind touches
 pub map_at-lines : {s t : State} {q : ℕ} {now : List ℕ} → Lines s t q now → (j : ℕ) → map_at t j ≡ map_at s j

@@ -1,5 +1,5 @@
 -- What is taken from the order at a level's front.
-use Rattle.std.proofs.Common.{◌≡◌, ℕ, ◌+◌, ◌-◌, ◌*◌, ◌^◌, ◌<◌, ◌≤◌, ◌==◌, min, Bool, true, false, List, ◌∷◌, ◌++◌, length, refl, ap, subst, ◌∙◌, Some, arith}
+use Rattle.std.proofs.Common.{◌≡◌, ◌≢◌, ℕ, ◌+◌, ◌*◌, ◌<◌, ◌≤◌, ◌==◌, Bool, true, false, List, ◌∷◌, ◌++◌, length, refl, ap, subst, ◌∙◌, Some, arith}
 use Rattle.std.specs.Prelude.{if◌then◌else◌, sum_by}
 use Rattle.std.proofs.lemmas.List.{length-map}
 use Rattle.md_history.specs.declared.acts.Act.{Act}
@@ -12,17 +12,17 @@ use Rattle.md_book.specs.declared.fronts.Look.TheVariants.{Live}
 use Rattle.md_book.specs.declared.maps.TheConstants.{LEVELS}
 use Rattle.md_book.specs.declared.limits.TheConstants.{MAX_QUANTITY}
 use Rattle.md_book.specs.Book.{Order, Trade, Book, IsAccount, IsPrice, level_of, lessen, front_order, pass, trade, traded}
-use Rattle.md_book.specs.Scripts.{value_or_0, raise}
+use Rattle.md_book.specs.Scripts.{raise}
 use Rattle.md_book.specs.Filling.{resting_sums}
 use Rattle.md_book.proofs.books.Raises.{raise-sets}
 use Rattle.md_book.proofs.steps.Costs.{Costs, costs-append, costs-more, costs-none}
-use Rattle.md_book.proofs.books.Replacing.{replace-costs}
+use Rattle.md_book.proofs.books.Replacing.{raise-costs}
 use Rattle.md_book.proofs.sums.LookSums.{front-has}
 use Rattle.md_book.proofs.books.Unpacking.{side-level}
 use Rattle.md_book.proofs.books.ChangedBooks.{with_less, left-with_less, with_trade, sound-with_trade}
 use Rattle.md_book.proofs.sums.SideSums.{resting_sum, resting_sum-le, sums-low, traded-room}
 use Rattle.md_book.proofs.books.Reflects.{Reflects, reflects-trade}
-use Rattle.md_book.proofs.steps.TakingOut.{unless, IsOut, look_up, packed_order, take_out, front-in_range, taken_out}
+use Rattle.md_book.proofs.steps.TakingOut.{unless, IsOut, look_up, packed_order, out_by, front-in_range, taken_out}
 
 -- so much was taken from an order
 pub record IsLive (b : Book) (level : ℕ) (side : Side) (depths takers : ℕ → ℕ) (taker : ℕ) (o : Order) (taken read write take : ℕ) (t : State) (look : Look) (acts : List Act) : Type 0 where
@@ -38,7 +38,7 @@ abbrev pub then_raise : Side → Order → ℕ → ℕ → Script Look
 then_raise side o taken account = bind (raise (resting_sums side) account taken) (λ _. done (Live (record { name = o.name; taken = taken })))
 
 abbrev pub taking : Side → ℕ → Order → ℕ → Bool → ℕ → Script Look
-taking side level o taken emptied account = bind (take_out level o taken emptied) (λ _. then_raise side o taken account)
+taking side level o taken emptied account = bind (out_by level o taken emptied) (λ _. then_raise side o taken account)
 
 module _ (side : Side) (price : ℕ) (priced : IsPrice price) (taker : ℕ) (taker_in_range : IsAccount taker) {s : State} {b : Book} {depths takers : ℕ → ℕ} (r : Reflects s b side depths takers) (below : level_of side price < LEVELS) where
   abbrev level : ℕ
@@ -51,7 +51,7 @@ module _ (side : Side) (price : ℕ) (priced : IsPrice price) (taker : ℕ) (tak
     same_side : o.side ≡ side
     same_side = side-level o.side side o.price price (front-in_range r level below o front live).price priced (front-has b level o front).1
 
-    module _ (taken : ℕ) (within : taken ≤ o.left) where
+    module _ (taken : ℕ) (some : taken ≢ 0) (within : taken ≤ o.left) where
       abbrev less : Book
       less = with_less b o.name taken
 
@@ -94,23 +94,23 @@ module _ (side : Side) (price : ℕ) (priced : IsPrice price) (taker : ℕ) (tak
             let in_range = front-in_range r level below o front live in
             reflects-trade is.reflects (played (raise (resting_sums side) o.account taken) t) (trade_of o taker taken)
             (sound-with_trade now (trade_of o taker taken) is.reflects.sound in_range.account taker_in_range total) same_side
-            (raise-sets t (resting_sums side) o.account (resting_sum side now o.account) taken below_maps (is.reflects.resting o.account)
+            (raise-sets t (resting_sums side) o.account (resting_sum side now o.account) taken below_maps (is.reflects.resting o.account) some
             (omega (arith, resting_sum-le now o.account side, traded-room now is.reflects.sound, in_range.left)))
 
-        raises : IsLive b level side depths takers taker o taken 3 (5 + unless (o.left == taken)) (1 + unless (o.left == taken)) (played (then_raise side o taken o.account) t) (outcome (then_raise side o taken o.account) t) (look_up o ∷ acts ++ made (then_raise side o taken o.account) t)
+        raises : IsLive b level side depths takers taker o taken 2 (5 + unless (o.left == taken)) (1 + unless (o.left == taken)) (played (then_raise side o taken o.account) t) (outcome (then_raise side o taken o.account) t) (look_up o ∷ acts ++ made (then_raise side o taken o.account) t)
         raises =
             ends-bind (raise (resting_sums side) o.account taken) (λ _. done (Live (record { name = o.name; taken = taken }))) t
-            (λ u look xs. IsLive b level side depths takers taker o taken 3 (5 + unless (o.left == taken)) (1 + unless (o.left == taken)) u look (look_up o ∷ acts ++ xs))
+            (λ u look xs. IsLive b level side depths takers taker o taken 2 (5 + unless (o.left == taken)) (1 + unless (o.left == taken)) u look (look_up o ∷ acts ++ xs))
             (record {
               look_is = refl;
               reflects = subst (λ x. Reflects (played (raise (resting_sums side) o.account taken) t) x side depths takers) (out-traded emptied ∙ ap (λ e. if e then pass (trade b o taker taken) level else trade b o taker taken) same) raised;
-              costs = costs-more (costs-append is.costs (costs-append (replace-costs level (resting_sums side) o.account t below_maps (λ v. min (value_or_0 v + taken) (2 ^ 64 - 1))) (costs-none level)))
-                  3 (5 + unless (o.left == taken)) (1 + unless (o.left == taken)) (omega arith) (omega (arith, ap unless same)) (omega (arith, ap unless same));
+              costs = costs-more (costs-append is.costs (costs-append (raise-costs level t (resting_sums side) o.account taken) (costs-none level)))
+                  2 (5 + unless (o.left == taken)) (1 + unless (o.left == taken)) (omega arith) (omega (arith, ap unless same)) (omega (arith, ap unless same));
             })
 
-      pub takes_live : IsLive b level side depths takers taker o taken 3 (5 + unless (o.left == taken)) (1 + unless (o.left == taken))
+      pub takes_live : IsLive b level side depths takers taker o taken 2 (5 + unless (o.left == taken)) (1 + unless (o.left == taken))
           (played (taking side level o taken (o.left == taken) o.account) s) (outcome (taking side level o taken (o.left == taken) o.account) s) (look_up o ∷ made (taking side level o taken (o.left == taken) o.account) s)
       takes_live =
-          ends-bind (take_out level o taken (o.left == taken)) (λ _. then_raise side o taken o.account) s
-          (λ t look acts. IsLive b level side depths takers taker o taken 3 (5 + unless (o.left == taken)) (1 + unless (o.left == taken)) t look (look_up o ∷ acts))
+          ends-bind (out_by level o taken (o.left == taken)) (λ _. then_raise side o taken o.account) s
+          (λ t look acts. IsLive b level side depths takers taker o taken 2 (5 + unless (o.left == taken)) (1 + unless (o.left == taken)) t look (look_up o ∷ acts))
           (raises (o.left == taken) refl _ _ (taken_out r level below o front live taken within))

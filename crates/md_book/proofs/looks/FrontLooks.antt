@@ -1,5 +1,5 @@
 -- A look at a level's front place.
-use Rattle.std.proofs.Common.{◌≡◌, ℕ, ◌+◌, ◌<◌, ◌≤◌, ◌==◌, ◌⊎◌, min, cond, List, [], ◌∷◌, refl, sym, ap, subst, ◌∙◌, inl, inr, Option, Some, None, arith}
+use Rattle.std.proofs.Common.{◌≡◌, ◌≢◌, ℕ, ◌+◌, ◌<◌, ◌≤◌, ◌==◌, ◌⊎◌, min, cond, List, [], ◌∷◌, refl, sym, ap, subst, ◌∙◌, inl, inr, Option, Some, None, arith}
 use Rattle.std.specs.Prelude.{slice_get}
 use Rattle.std.specs.Option.{option_map}
 use Rattle.std.specs.FinMap as fin
@@ -22,7 +22,7 @@ use Rattle.md_book.specs.Filling.{take_from, look_front}
 use Rattle.md_book.specs.Places.{places_looked}
 use Rattle.md_book.proofs.books.Places.{look-seen}
 use Rattle.md_book.proofs.books.Changes.{dequeue-lines}
-use Rattle.md_book.proofs.steps.Costs.{Costs, costs-append, costs-more, costs-front, costs-get, costs-dequeue}
+use Rattle.md_book.proofs.steps.Costs.{Costs, costs-append, costs-more, costs-front, costs-end, costs-get, costs-dequeue}
 use Rattle.md_book.proofs.sums.LookSums.{front-has}
 use Rattle.md_book.proofs.books.Unpacking.{account_in-packed, left_in-packed}
 use Rattle.md_book.proofs.books.ChangedBooks.{open_order-own, sound-pass}
@@ -34,14 +34,14 @@ use Rattle.md_book.proofs.looks.AtFront.{IsLive, taking, takes_live}
 pub record IsNobody (b : Book) (level : ℕ) (side : Side) (depths takers : ℕ → ℕ) (t : State) (look : Look) (acts : List Act) : Type 0 where
   pub look_is : look ≡ Nobody
   pub reflects : Reflects t b side depths takers
-  pub costs : Costs level acts 0 0 0
+  pub costs : Costs level acts 1 0 0
 
 -- a dead place was passed
 pub record IsDead (b : Book) (level : ℕ) (side : Side) (depths takers : ℕ → ℕ) (o : Order) (t : State) (look : Look) (acts : List Act) : Type 0 where
   pub empty : o.left ≡ 0
   pub look_is : look ≡ Dead
   pub reflects : Reflects t (pass b level) side depths takers
-  pub costs : Costs level acts 2 1 0
+  pub costs : Costs level acts 1 1 0
 
 -- what is done with what the front names, and with what the map has there
 abbrev at_order : Side → ℕ → ℕ → ℕ → Option ℕ → Script Look
@@ -59,7 +59,7 @@ module _ (side : Side) (price : ℕ) (priced : IsPrice price) (taker : ℕ) (tak
   abbrev pub LooksAtOrder : Order → State → Look → List Act → Type 0
   LooksAtOrder o t look acts =
       IsDead b level side depths takers o t look acts
-      ⊎ ((0 < o.left) × IsLive b level side depths takers taker o (min o.left rest) 3 (5 + unless (o.left == min o.left rest)) (1 + unless (o.left == min o.left rest)) t look acts)
+      ⊎ ((0 < o.left) × IsLive b level side depths takers taker o (min o.left rest) 2 (5 + unless (o.left == min o.left rest)) (1 + unless (o.left == min o.left rest)) t look acts)
 
   -- what a look is, by the order at the front
   abbrev pub LooksAt : Option Order → State → Look → List Act → Type 0
@@ -79,17 +79,17 @@ module _ (side : Side) (price : ℕ) (priced : IsPrice price) (taker : ℕ) (tak
       empty = empty;
       look_is = refl;
       reflects = reflects-pass r (after s (Dequeue level)) level (sound-pass b level o front empty r.sound) (dequeue-lines s level (omega (arith, below, r.queues)));
-      costs = subst (λ v. Costs level (so_far None (act_of (Dequeue level) (Value v) ∷ [])) 2 1 0) (sym first)
-          (costs-append (costs-front level (Some o.name)) (costs-append (costs-get level OPEN_ORDERS o.name None) (costs-dequeue level o.name)));
+      costs = subst (λ v. Costs level (so_far None (act_of (Dequeue level) (Value v) ∷ [])) 1 1 0) (sym first)
+          (costs-append (costs-front level o.name) (costs-append (costs-get level OPEN_ORDERS o.name None) (costs-dequeue level o.name)));
     }
 
     abbrev Lives : State → Look → List Act → Type 0
-    Lives t look acts = IsLive b level side depths takers taker o (min o.left rest) 3 (5 + unless (o.left == min o.left rest)) (1 + unless (o.left == min o.left rest)) t look acts
+    Lives t look acts = IsLive b level side depths takers taker o (min o.left rest) 2 (5 + unless (o.left == min o.left rest)) (1 + unless (o.left == min o.left rest)) t look acts
 
-    takes_at : (live : 0 < o.left) → Lives (played (at_order side level rest o.name (Some (packed_order o))) s) (outcome (at_order side level rest o.name (Some (packed_order o))) s) (so_far (Some (packed_order o)) (made (at_order side level rest o.name (Some (packed_order o))) s))
-    takes_at live =
+    takes_at : (some : rest ≢ 0) (live : 0 < o.left) → Lives (played (at_order side level rest o.name (Some (packed_order o))) s) (outcome (at_order side level rest o.name (Some (packed_order o))) s) (so_far (Some (packed_order o)) (made (at_order side level rest o.name (Some (packed_order o))) s))
+    takes_at some live =
         let in_range = front-in_range r level below o front live in
-        let taken = takes_live side price priced taker taker_in_range r below o front live (min o.left rest) (omega arith) in
+        let taken = takes_live side price priced taker taker_in_range r below o front live (min o.left rest) (λ e. some (omega (arith, e, live))) (omega arith) in
         let P : ℕ → ℕ → Type 0 = λ left account. Lives (played (taking side level o (min left rest) (left == min left rest) account) s) (outcome (taking side level o (min left rest) (left == min left rest) account) s)
         (so_far (Some (packed_order o)) (made (taking side level o (min left rest) (left == min left rest) account) s)) in
         subst (λ left. P left (account_in (packed_order o))) (sym (left_in-packed o.account o.price o.left in_range.price in_range.left o.side))
@@ -97,11 +97,11 @@ module _ (side : Side) (price : ℕ) (priced : IsPrice price) (taker : ℕ) (tak
         (record {
           look_is = taken.look_is;
           reflects = taken.reflects;
-          costs = costs-more (costs-append (costs-front level (Some o.name)) taken.costs) 3 (5 + unless (o.left == min o.left rest)) (1 + unless (o.left == min o.left rest)) (omega arith) (omega arith) (omega arith);
+          costs = costs-more (costs-append (costs-front level o.name) taken.costs) 2 (5 + unless (o.left == min o.left rest)) (1 + unless (o.left == min o.left rest)) (omega arith) (omega arith) (omega arith);
         }))
 
-    some_looks : LooksAtOrder o (played (at_name side level rest (Some o.name)) s) (outcome (at_name side level rest (Some o.name)) s) (act_of (Front level) (Value (Some o.name)) ∷ made (at_name side level rest (Some o.name)) s)
-    some_looks =
+    some_looks : rest ≢ 0 → LooksAtOrder o (played (at_name side level rest (Some o.name)) s) (outcome (at_name side level rest (Some o.name)) s) (act_of (Front level) (Value (Some o.name)) ∷ made (at_name side level rest (Some o.name)) s)
+    some_looks remains =
         let P : Option ℕ → Type 0 = λ v. LooksAtOrder o (played (at_order side level rest o.name v) s) (outcome (at_order side level rest o.name v) s) (so_far v (made (at_order side level rest o.name v) s)) in
         elim (cases_eq o.left 0) [
           | inl empty ↦
@@ -109,14 +109,14 @@ module _ (side : Side) (price : ℕ) (priced : IsPrice price) (taker : ℕ) (tak
               subst P (sym none) (inl (passes_dead empty))
           | inr some ↦
               let live : 0 < o.left = omega (arith, some) in
-              subst P (sym (front-stood r level below o front live)) (inr (live, takes_at live))
+              subst P (sym (front-stood r level below o front live)) (inr (live, takes_at remains live))
         ]
 
-  by_front : (front : Option Order) → front_order b level ≡ front → LooksAt front (played (at_name side level rest (option_map (λ p. p.name) front)) s) (outcome (at_name side level rest (option_map (λ p. p.name) front)) s)
+  by_front : rest ≢ 0 → (front : Option Order) → front_order b level ≡ front → LooksAt front (played (at_name side level rest (option_map (λ p. p.name) front)) s) (outcome (at_name side level rest (option_map (λ p. p.name) front)) s)
       (act_of (Front level) (Value (option_map (λ p. p.name) front)) ∷ made (at_name side level rest (option_map (λ p. p.name) front)) s)
-  by_front None e = record { look_is = refl; reflects = r; costs = costs-front level None }
-  by_front (Some o) e = (look-seen level o.name (made (at_name side level rest (Some o.name)) s), some_looks o e)
+  by_front remains None e = record { look_is = refl; reflects = r; costs = costs-end level }
+  by_front remains (Some o) e = (look-seen level o.name (made (at_name side level rest (Some o.name)) s), some_looks o e remains)
 
-  pub front-looks : LooksAt (front_order b level) (played (look_front side level rest) s) (outcome (look_front side level rest) s) (made (look_front side level rest) s)
-  front-looks = subst (λ v. LooksAt (front_order b level) (played (at_name side level rest v) s) (outcome (at_name side level rest v) s) (act_of (Front level) (Value v) ∷ made (at_name side level rest v) s))
-      (sym (reflects-front r level below)) (by_front (front_order b level) refl)
+  pub front-looks : rest ≢ 0 → LooksAt (front_order b level) (played (look_front side level rest) s) (outcome (look_front side level rest) s) (made (look_front side level rest) s)
+  front-looks remains = subst (λ v. LooksAt (front_order b level) (played (at_name side level rest v) s) (outcome (at_name side level rest v) s) (act_of (Front level) (Value v) ∷ made (at_name side level rest v) s))
+      (sym (reflects-front r level below)) (by_front remains (front_order b level) refl)

@@ -17,12 +17,12 @@ use Rattle.md_book.specs.declared.commands.BookReply.TheVariants as reply
 use Rattle.md_book.specs.declared.maps.TheConstants.{DEPTHS, OPEN_ORDERS}
 use Rattle.md_book.specs.Book.{Order, Book, level_of, depth, sold, find_open, cancel_step}
 use Rattle.md_book.specs.Stands.{packed, left_in, level_in, open_order, unless_0, IsInRange, Shows}
-use Rattle.md_book.specs.Scripts.{lower, value_or_0}
+use Rattle.md_book.specs.Scripts.{lower}
 use Rattle.md_book.proofs.books.Sizes.{HasMapsAndQueues}
 use Rattle.md_book.proofs.books.Changes.{Sets, remove-sets}
 use Rattle.md_book.proofs.books.Raises.{lower-sets}
 use Rattle.md_book.proofs.steps.Costs.{costs-append, costs-none, costs-absent, costs-removed, few-cost}
-use Rattle.md_book.proofs.books.Replacing.{replace-costs}
+use Rattle.md_book.proofs.books.Replacing.{lower-costs}
 use Rattle.md_book.proofs.books.Lessened.{Has, find-has, All-has}
 use Rattle.md_book.proofs.books.OpenOrders.{is_open}
 use Rattle.md_book.proofs.books.ChangedBooks.{with_less, depth-with_less, open_order-with_less}
@@ -102,7 +102,7 @@ module _ (s : State) (b : Book) (name : ℕ) (room : HasMapsAndQueues s) (shows 
         (record {
           replied = refl;
           shows = reflects-shows lowered less (depth less) (sold b) Buy (reflects-depth lessened_reflects lowered level depth_lowered depth_other) (λ _. refl) (λ _. refl);
-          few = few-cost (costs-append (costs-removed 0 OPEN_ORDERS name (packed_order o)) (costs-append (replace-costs 0 DEPTHS level removed (omega (arith, gone.maps, room.maps)) (λ r. value_or_0 r - o.left)) (costs-none 0))) (omega arith) (omega arith) (omega arith);
+          few = few-cost (costs-append (costs-removed 0 OPEN_ORDERS name (packed_order o)) (costs-append (lower-costs 0 removed DEPTHS level o.left) (costs-none 0))) (omega arith) (omega arith) (omega arith);
         })
 
     cancels-some : CancelsAs (Some o)

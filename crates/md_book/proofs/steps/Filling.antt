@@ -1,5 +1,5 @@
 -- Filling is one step of the book.
-use Rattle.std.proofs.Common.{◌≡◌, ◌≢◌, ℕ, ◌+◌, ◌-◌, ◌*◌, ◌^◌, ◌<◌, ◌≤◌, ◌==◌, min, true, false, cond, List, [], ◌++◌, length, refl, sym, ap, subst, ◌∙◌, inl, inr, Some, None, arith}
+use Rattle.std.proofs.Common.{◌≡◌, ◌≢◌, ℕ, ◌+◌, ◌-◌, ◌*◌, ◌<◌, ◌≤◌, ◌==◌, true, false, cond, List, [], ◌++◌, length, refl, sym, ap, subst, ◌∙◌, inl, inr, Some, None, arith}
 use Rattle.std.specs.FinMap as fin
 use Rattle.std.proofs.lemmas.Bool.{eq-eqb, ne_eqb, eqb-true, eqb-false}
 use Rattle.md_history.specs.declared.acts.Act.{Act}
@@ -16,7 +16,7 @@ use Rattle.md_book.specs.declared.limits.TheConstants.{MAX_PARTS}
 use Rattle.md_book.specs.declared.maps.TheConstants.{DEPTHS}
 use Rattle.md_book.specs.Book.{Book, level_of, depth, Looked, look, looked_step}
 use Rattle.md_book.specs.Stands.{unless_0, Shows}
-use Rattle.md_book.specs.Scripts.{value_or_0, raise, lower}
+use Rattle.md_book.specs.Scripts.{raise, lower}
 use Rattle.md_book.specs.Filling.{taker_sums, unfilled, take_parts, book_taken, filled_reply, finish, fill}
 use Rattle.md_book.specs.Commands.{IsOffer, IsPlaces}
 use Rattle.md_book.specs.Places.{places_looked, bounds_for, FillsAreFew}
@@ -25,7 +25,7 @@ use Rattle.md_book.proofs.books.Changes.{Sets}
 use Rattle.md_book.proofs.books.Raises.{raise-sets, lower-sets}
 use Rattle.md_book.proofs.steps.Costs.{Costs, costs-append, costs-more, costs-none, few-cost, reads-cost, writes-cost}
 use Rattle.md_book.proofs.books.Places.{PlaceCosts, place-costs, place-costs-append}
-use Rattle.md_book.proofs.books.Replacing.{replace-costs, replace-costs_some}
+use Rattle.md_book.proofs.books.Replacing.{raise-costs, lower-costs_some}
 use Rattle.md_book.proofs.sums.SideSums.{taker_sum, at_account, taker_sum-le, sums-low, traded-room}
 use Rattle.md_book.proofs.books.Reflects.{Reflects, shows-reflects, reflects-shows, reflects-depth, reflects-taker}
 use Rattle.md_book.proofs.looks.Lags.{Lags, lags-start}
@@ -36,7 +36,7 @@ use Rattle.md_book.proofs.steps.Stepping.{MakesStep}
 -- depths and takers' sums have caught up
 pub record Booked (level : ℕ) (b : Book) (t : State) (acts : List Act) : Type 0 where
   pub shows : Shows t b
-  pub costs : Costs level acts 1 6 2
+  pub costs : Costs level acts 2 6 2
 
 module _ (side : Side) (level taker : ℕ) {depths takers : ℕ → ℕ} {s : State} {b : Book} (r : Reflects s b side depths takers) (taken : ℕ) (lags : Lags side level taker depths takers b taken) where
   at-own : (own : ℕ) → at_account own own taken ≡ taken
@@ -50,7 +50,7 @@ module _ (side : Side) (level taker : ℕ) {depths takers : ℕ → ℕ} {s : St
       let nothing : (own at : ℕ) → at_account own at taken ≡ 0 = λ own at. elim (own == at) as (λ t. cond t taken 0 ≡ 0) [ true ↦ none | false ↦ refl ] in
       record {
         shows = reflects-shows s b depths takers side r (λ at. omega (arith, lags.depths_lag at, nothing level at)) (λ account. omega (arith, lags.takers_lag account, nothing taker account));
-        costs = costs-more (costs-none level) 1 6 2 (omega arith) (omega arith) (omega arith);
+        costs = costs-more (costs-none level) 2 6 2 (omega arith) (omega arith) (omega arith);
       }
 
   module _ (some : taken ≢ 0) where
@@ -68,7 +68,7 @@ module _ (side : Side) (level taker : ℕ) {depths takers : ℕ → ℕ} {s : St
 
     sum_set : Sets s raised (taker_sums side) taker (unless_0 (taker_sum side b taker))
     sum_set = subst (λ n. Sets s raised (taker_sums side) taker (unless_0 n)) new_sum
-        (raise-sets s (taker_sums side) taker (takers taker) taken below_maps (r.has_takers taker) (omega (arith, new_sum, taker_sum-le b taker side, traded-room b r.sound)))
+        (raise-sets s (taker_sums side) taker (takers taker) taken below_maps (r.has_takers taker) some (omega (arith, new_sum, taker_sum-le b taker side, traded-room b r.sound)))
 
     with_taker : Reflects raised b side depths (taker_sum side b)
     with_taker = reflects-taker r raised taker sum_set (λ account apart. omega (arith, lags.takers_lag account, at-other taker account apart))
@@ -90,8 +90,7 @@ module _ (side : Side) (level taker : ℕ) {depths takers : ℕ → ℕ} {s : St
     booked-some = ends-bind (raise (taker_sums side) taker taken) (λ _. lower DEPTHS level taken) s (λ t _ acts. Booked level b t acts)
         (record {
           shows = reflects-shows lowered b (depth b) (taker_sum side b) side with_depth (λ _. refl) (λ _. refl);
-          costs = costs-append (replace-costs level (taker_sums side) taker s below_maps (λ v. min (value_or_0 v + taken) (2 ^ 64 - 1)))
-              (replace-costs_some level DEPTHS level raised (omega (arith, with_taker.maps)) (λ v. value_or_0 v - taken) (depths level) stood);
+          costs = costs-append (raise-costs level s (taker_sums side) taker taken) (lower-costs_some level raised DEPTHS level taken (depths level) stood);
         })
 
   pub booked : Booked level b (played (book_taken side level taker taken) s) (made (book_taken side level taker taken) s)
@@ -104,8 +103,8 @@ module _ (side : Side) (level taker : ℕ) {depths takers : ℕ → ℕ} {s : St
 pub record IsFilled (level places : ℕ) (l : Looked) (t : State) (r : BookReply) (acts : List Act) : Type 0 where
   pub replied : r ≡ (looked_step l).reply
   pub shows : Shows t l.book
-  pub costs : Costs level acts (3 * places + 1) (5 * places + 7) (places + 3)
-  pub by_places : PlaceCosts level acts 1 7 3
+  pub costs : Costs level acts (2 * places + 2) (5 * places + 7) (places + 3)
+  pub by_places : PlaceCosts level acts 3 7 3
 
 module _ (s : State) (b : Book) (room : HasMapsAndQueues s) (shows : Shows s b) (account : ℕ) (side : Side) (price quantity places : ℕ) (is : IsOffer account price quantity) (low : places ≤ MAX_PARTS) where
   abbrev level : ℕ
@@ -147,8 +146,8 @@ module _ (s : State) (b : Book) (room : HasMapsAndQueues s) (shows : Shows s b) 
         (record {
           replied = replies;
           shows = books.shows;
-          costs = costs-more (costs-append took_it.costs (costs-append books.costs (costs-none level))) (3 * places + 1) (5 * places + 7) (places + 3) (omega arith) (omega arith) (omega arith);
-          by_places = place-costs-append 0 1 1 1 6 2 took_it.by_places (place-costs (costs-append books.costs (costs-none level)));
+          costs = costs-more (costs-append took_it.costs (costs-append books.costs (costs-none level))) (2 * places + 2) (5 * places + 7) (places + 3) (omega arith) (omega arith) (omega arith);
+          by_places = place-costs-append 1 1 1 2 6 2 took_it.by_places (place-costs (costs-append books.costs (costs-none level)));
         })
 
   pub fills : IsFilled level places looked (played (fill account side price quantity places) s) (outcome (fill account side price quantity places) s) (made (fill account side price quantity places) s)

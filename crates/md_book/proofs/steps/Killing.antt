@@ -1,7 +1,8 @@
 -- A kill is one step of the book.
-use Rattle.std.proofs.Common.{◌≡◌, ℕ, ◌-◌, ◌≤◌, ◌==◌, Bool, true, false, cond, List, [], ◌∷◌, ◌++◌, map, length, take, drop, replicate, refl, sym, ap, subst, ◌∙◌, inl, inr, arith}
+use Rattle.std.proofs.Common.{◌≡◌, ℕ, ◌+◌, ◌-◌, ◌≤◌, ◌==◌, nat_lt, Bool, true, false, cond, List, [], ◌∷◌, ◌++◌, map, length, take, drop, replicate, refl, sym, ap, subst, ◌∙◌, inl, inr, arith}
 use Rattle.std.specs.List.{AllByRecursion, take-map, drop-map}
-use Rattle.std.proofs.lemmas.List.{length-take}
+use Rattle.std.proofs.lemmas.Bool.{ltb-true}
+use Rattle.std.proofs.lemmas.List.{length-take, length-map}
 use Rattle.std.proofs.Math.Seq.{take-append_seam}
 use Rattle.std.proofs.lemmas.List.Elements.{All-filter, All-take, All-drop, All-from_recursion, recursion_from_All}
 use Rattle.md_history.specs.declared.acts.Act.{Act}
@@ -23,7 +24,7 @@ use Rattle.md_book.specs.Scripts.{line_values}
 use Rattle.md_book.specs.Killing.{have_left, fill_or_kill}
 use Rattle.md_book.specs.Commands.{IsOffer}
 use Rattle.md_book.proofs.books.Sizes.{HasMapsAndQueues}
-use Rattle.md_book.proofs.steps.Costs.{Costs, costs-append, costs-more, costs-none, costs-line, few-cost}
+use Rattle.md_book.proofs.steps.Costs.{Costs, costs-append, costs-none, costs-line, few-cost}
 use Rattle.md_book.proofs.books.Lessened.{Has}
 use Rattle.md_book.proofs.steps.Placing.{level_of-below}
 use Rattle.md_book.proofs.steps.Stepping.{IsStep, MakesStep}
@@ -49,6 +50,13 @@ first-orders-stand b level places = recursion_from_All (Has b.orders) (first_ord
 values-of-line : (xs : List ℕ) → line_values (TheLine (line_of xs)) ≡ xs
 values-of-line xs = take-append_seam xs (replicate (MAX_LINE - length xs) 0)
 
+-- one more than fewer is no more
+one-more : (n most : ℕ) → n ≤ most → cond (nat_lt n most) 1 0 + n ≤ most
+one-more n most few = elim (nat_lt n most) as (λ t. nat_lt n most ≡ t → cond t 1 0 + n ≤ most) [
+  | true ↦ λ e. let less = ltb-true n most e in omega arith
+  | false ↦ λ _. omega arith
+] refl
+
 module _ (s : State) (b : Book) (room : HasMapsAndQueues s) (shows : Shows s b) (account : ℕ) (side : Side) (price quantity places : ℕ) (is : IsOffer account price quantity) (low : places ≤ MAX_PARTS) where
   abbrev level : ℕ
   level = level_of side price
@@ -57,15 +65,24 @@ module _ (s : State) (b : Book) (room : HasMapsAndQueues s) (shows : Shows s b) 
   firsts = first_orders b level places
 
   -- the line has the names of the orders at the level's first places
-  line-names : line_values (answer s (Line level places)) ≡ map (λ o. o.name) firsts
-  line-names =
-      values-of-line (take places (queue_at s level))
-      ∙ ap (take places) (shows.names level (level_of-below side price is.priced) ∙ drop-map (λ (o : Order). o.name) (b.passed level) (orders_at b level))
+  line-is : take places (queue_at s level) ≡ map (λ o. o.name) firsts
+  line-is =
+      ap (take places) (shows.names level (level_of-below side price is.priced) ∙ drop-map (λ (o : Order). o.name) (b.passed level) (orders_at b level))
       ∙ take-map (λ (o : Order). o.name) places (drop (b.passed level) (orders_at b level))
+
+  line-names : line_values (answer s (Line level places)) ≡ map (λ o. o.name) firsts
+  line-names = values-of-line (take places (queue_at s level)) ∙ line-is
 
   -- there are no more of them than places
   firsts-few : length firsts ≤ places
   firsts-few = omega (arith, length-take places (drop (b.passed level) (orders_at b level)))
+
+  -- a line that came to the queue's end has fewer names, so that it and their lookups read no more than a word for each
+  -- place
+  line-few : cond (nat_lt (length (take places (queue_at s level))) places) 1 0 + length firsts ≤ places
+  line-few =
+      let count : length (take places (queue_at s level)) ≡ length firsts = ap length line-is ∙ length-map firsts (λ (o : Order). o.name) in
+      subst (λ n. cond (nat_lt n places) 1 0 + length firsts ≤ places) (sym count) (one-more (length firsts) places firsts-few)
 
   abbrev then : Bool → Script BookReply
   then = fill_or_kill account side price quantity places
@@ -77,18 +94,18 @@ module _ (s : State) (b : Book) (room : HasMapsAndQueues s) (shows : Shows s b) 
   step_if enough = cond enough (fill_step b account level quantity places) (record { book = b; reply = reply.Killed })
 
   -- it goes on from the state that the lookups left as it was
-  goes : (enough : Bool) (acts : List Act) → Costs level acts places places 0 → IsStep (step_if enough) (played (then enough) s) (outcome (then enough) s) (line ∷ acts ++ made (then enough) s)
+  goes : (enough : Bool) (acts : List Act) → Costs level acts (length firsts) (length firsts) 0 → IsStep (step_if enough) (played (then enough) s) (outcome (then enough) s) (line ∷ acts ++ made (then enough) s)
   goes true acts costs =
       let filled = fills s b room shows account side price quantity places is low in
       record {
         replied = filled.replied;
         shows = filled.shows;
-        few = few-cost (costs-append (costs-line level places _) (costs-append costs filled.costs)) (omega (arith, low)) (omega (arith, low)) (omega (arith, low));
+        few = few-cost (costs-append (costs-line level places _) (costs-append costs filled.costs)) (omega (arith, low, line-few)) (omega (arith, low, firsts-few)) (omega (arith, low));
       }
   goes false acts costs = record {
     replied = refl;
     shows = shows;
-    few = few-cost (costs-append (costs-line level places _) (costs-append costs (costs-none level))) (omega (arith, low)) (omega (arith, low)) (omega (arith, low));
+    few = few-cost (costs-append (costs-line level places _) (costs-append costs (costs-none level))) (omega (arith, low, line-few)) (omega (arith, low, firsts-few)) (omega (arith, low));
   }
 
   -- and from what the lookups found
@@ -97,7 +114,7 @@ module _ (s : State) (b : Book) (room : HasMapsAndQueues s) (shows : Shows s b) 
   goes-as t enough acts found =
       subst (λ u. IsStep (kill_step b account level quantity places) (played (then enough) u) (outcome (then enough) u) (line ∷ acts ++ made (then enough) u)) (sym found.same)
       (subst (λ e. IsStep (step_if e) (played (then enough) s) (outcome (then enough) s) (line ∷ acts ++ made (then enough) s)) found.tells
-      (goes enough acts (costs-more found.costs places places 0 firsts-few firsts-few (omega arith))))
+      (goes enough acts found.costs))
 
   pub kill-steps : MakesStep s b (Kill account side price quantity places)
   kill-steps =

@@ -1,5 +1,5 @@
 -- Placing an order is one step of the book.
-use Rattle.std.proofs.Common.{◌≡◌, ◌≢◌, ℕ, ◌+◌, ◌-◌, ◌^◌, ◌<◌, min, [], ◌∷◌, ◌++◌, map, length, drop, refl, sym, ap, subst, ◌∙◌, Some, arith}
+use Rattle.std.proofs.Common.{◌≡◌, ◌≢◌, ℕ, ◌+◌, ◌<◌, [], ◌∷◌, ◌++◌, map, length, drop, refl, sym, ap, subst, ◌∙◌, Some, arith}
 use Rattle.std.specs.Prelude.{is_none}
 use Rattle.std.specs.FinMap as fin
 use Rattle.md_history.specs.declared.acts.Op.TheVariants.{Insert, Enqueue}
@@ -8,7 +8,6 @@ use Rattle.md_history.specs.Act.{act_of}
 use Rattle.md_history.specs.State.{State, map_at, queue_at, after}
 use Rattle.md_history.specs.Counts.{AreFew}
 use Rattle.md_history.specs.Script.{done}
-use Rattle.md_history.proofs.Runs.{length-maps}
 use Rattle.md_history.proofs.Plays.{played, made, played-bind, outcome-bind, ends-bind}
 use Rattle.md_book.specs.declared.commands.Side.{Side}
 use Rattle.md_book.specs.declared.commands.Side.TheVariants.{Buy, Sell}
@@ -17,14 +16,14 @@ use Rattle.md_book.specs.declared.commands.BookReply.TheVariants.{Placed}
 use Rattle.md_book.specs.declared.maps.TheConstants.{BOUGHT, DEPTHS, LEVELS, OPEN_ORDERS, SOLD}
 use Rattle.md_book.specs.Book.{IsPrice, Order, Book, level_of, orders_at, depth}
 use Rattle.md_book.specs.Stands.{packed, open_order, unless_0, Shows}
-use Rattle.md_book.specs.Scripts.{value_or_0, place, raise}
+use Rattle.md_book.specs.Scripts.{place, raise}
 use Rattle.md_book.specs.Commands.{IsPlace}
 use Rattle.md_book.specs.Meets.{MayTake, command_bounds}
 use Rattle.md_book.proofs.books.Sizes.{HasMapsAndQueues}
 use Rattle.md_book.proofs.books.Changes.{at_each, Sets, Lines, insert-sets, enqueue-lines, map_at-lines, queue_at-sets}
 use Rattle.md_book.proofs.books.Raises.{raise-sets}
 use Rattle.md_book.proofs.steps.Costs.{costs-append, costs-none, costs-insert, costs-enqueue, few-cost}
-use Rattle.md_book.proofs.books.Replacing.{replace-costs}
+use Rattle.md_book.proofs.books.Replacing.{raise-costs}
 use Rattle.md_book.proofs.steps.Stepping.{MakesStep}
 use Rattle.md_book.proofs.books.Orders.{with_order, depth-room, depth-here, depth-other, open_order-new, open_order-here, open_order-other, names-here, names-other, sound-with_order}
 
@@ -34,15 +33,15 @@ level_of-below Buy price is = omega arith
 level_of-below Sell price is = omega arith
 
 -- placing is few acts, whatever the name
-pub place-few : (s : State) (b : Book) (o : Order) → HasMapsAndQueues s → AreFew command_bounds (made (place o.name o.account o.side o.price o.left) s)
-place-few s b o room =
+pub place-few : (s : State) (o : Order) → AreFew command_bounds (made (place o.name o.account o.side o.price o.left) s)
+place-few s o =
     let level = level_of o.side o.price in
     let order = packed o.account o.side o.price o.left in
     let t = after (after s (Insert OPEN_ORDERS o.name order)) (Enqueue level o.name) in
     let new = is_none (fin.get (map_at s OPEN_ORDERS) o.name) in
     ends-bind (raise DEPTHS level o.left) (λ _. done Placed) t (λ _ _ acts. AreFew command_bounds (act_of (Insert OPEN_ORDERS o.name order) (Flag new) ∷ act_of (Enqueue level o.name) Nothing ∷ acts))
     (few-cost (costs-append (costs-insert level OPEN_ORDERS o.name order new) (costs-append (costs-enqueue level o.name)
-    (costs-append (replace-costs level DEPTHS level t (omega (arith, length-maps s (Insert OPEN_ORDERS o.name order), room.maps)) (λ r. min (value_or_0 r + o.left) (2 ^ 64 - 1))) (costs-none level))))
+    (costs-append (raise-costs level t DEPTHS level o.left) (costs-none level))))
     (omega arith) (omega arith) (omega arith))
 
 module _ (s : State) (b : Book) (o : Order) (room : HasMapsAndQueues s) (shows : Shows s b) (is : IsPlace o.name o.account o.price o.left) (may : MayTake b (Place o.name o.account o.side o.price o.left)) where
@@ -114,11 +113,11 @@ module _ (s : State) (b : Book) (o : Order) (room : HasMapsAndQueues s) (shows :
   after_raise = played (raise DEPTHS level o.left) after_enqueue
 
   raised_depth : Sets after_enqueue after_raise DEPTHS level (unless_0 (depth b level + o.left))
-  raised_depth = raise-sets after_enqueue DEPTHS level (depth b level) o.left (omega (arith, room.maps, enqueued-maps)) enqueued-depth (depth-room b level o.left shows.sound is.offer.quantity_high)
+  raised_depth = raise-sets after_enqueue DEPTHS level (depth b level) o.left (omega (arith, room.maps, enqueued-maps)) enqueued-depth (λ e. omega (arith, e, is.offer.quantity_low)) (depth-room b level o.left shows.sound is.offer.quantity_high)
 
   pub place-steps : MakesStep s b (Place o.name o.account o.side o.price o.left)
   place-steps = record {
     replied = outcome-bind (raise DEPTHS level o.left) (λ _. done Placed) after_enqueue;
     shows = subst (λ t. Shows t (with_order b o)) (sym (played-bind (raise DEPTHS level o.left) (λ _. done Placed) after_enqueue)) (placed-shows raised_depth);
-    few = place-few s b o room;
+    few = place-few s o;
   }

@@ -12,7 +12,7 @@ use Rattle.md_book.proofs.steps.Killing.{kill-steps}
 
 pub commands-are-small : CommandsAreSmall
 commands-are-small s b (Place name account side price quantity) stands is acts follows right =
-    few-made command_bounds (script_of (Place name account side price quantity)) s acts (place-few s b (record { name = name; account = account; side = side; price = price; left = quantity }) (sized-room s stands.sized)) follows right
+    few-made command_bounds (script_of (Place name account side price quantity)) s acts (place-few s (record { name = name; account = account; side = side; price = price; left = quantity })) follows right
 commands-are-small s b (Cancel name) stands is acts follows right = few-made command_bounds (script_of (Cancel name)) s acts (cancel-steps s b name (sized-room s stands.sized) stands.shows).few follows right
 commands-are-small s b (Fill account side price quantity places) stands is acts follows right =
     few-made command_bounds (script_of (Fill account side price quantity places)) s acts (fill-steps s b (sized-room s stands.sized) stands.shows account side price quantity places is.offer (places-low places is.looks)).few follows right

@@ -45,8 +45,8 @@ pub record Amid (side : Side) (level taker quantity : ℕ) (depths takers : ℕ 
 pub record Took (side : Side) (level taker quantity : ℕ) (depths takers : ℕ → ℕ) (before : List Part) (places : ℕ) (l : Looked) (t : State) (f : Filling) (acts : List Act) : Type 0 where
   pub amid : Amid side level taker quantity depths takers t l.book f (before ++ l.parts)
   pub rest : f.rest ≡ l.rest
-  pub costs : Costs level acts (3 * places) (5 * places + 1) (places + 1)
-  pub by_places : PlaceCosts level acts 0 1 1
+  pub costs : Costs level acts (2 * places) (5 * places + 1) (places + 1)
+  pub by_places : PlaceCosts level acts 1 1 1
 
 abbrev no_part : Part
 no_part = record { name = 0; taken = 0 }
@@ -76,7 +76,7 @@ module _ (side : Side) (price : ℕ) (priced : IsPrice price) (taker : ℕ) (tak
   stays places s b f before amid = record {
     amid = subst (Amid side level taker quantity depths takers s b f) (sym (append-nil before)) amid;
     rest = refl;
-    costs = costs-more (costs-none level) (3 * places) (5 * places + 1) (places + 1) (omega arith) (omega arith) (omega arith);
+    costs = costs-more (costs-none level) (2 * places) (5 * places + 1) (places + 1) (omega arith) (omega arith) (omega arith);
     by_places = costs-more (costs-none level) _ _ _ (omega arith) (omega arith) (omega arith);
   }
 
@@ -97,7 +97,7 @@ module _ (side : Side) (price : ℕ) (priced : IsPrice price) (taker : ℕ) (tak
         record {
           amid = still.amid;
           rest = refl;
-          costs = costs-more (costs-append is.costs (costs-none level)) (3 * suc places) (5 * suc places + 1) (suc places + 1) (omega arith) (omega arith) (omega arith);
+          costs = costs-more (costs-append is.costs (costs-none level)) (2 * suc places) (5 * suc places + 1) (suc places + 1) (omega arith) (omega arith) (omega arith);
           by_places = costs-more (costs-append is.costs (costs-none level)) _ _ _ (omega arith) (omega arith) (omega arith);
         })
 
@@ -109,8 +109,8 @@ module _ (side : Side) (price : ℕ) (priced : IsPrice price) (taker : ℕ) (tak
         record {
           amid = then.amid;
           rest = then.rest;
-          costs = costs-more (costs-append is.costs then.costs) (3 * suc places) (5 * suc places + 1) (suc places + 1) (omega arith) (omega arith) (omega arith);
-          by_places = place-costs-append 0 0 0 0 1 1 (costs-more is.costs _ _ _ (omega (arith, seen)) (omega (arith, seen)) (omega arith)) then.by_places;
+          costs = costs-more (costs-append is.costs then.costs) (2 * suc places) (5 * suc places + 1) (suc places + 1) (omega arith) (omega arith) (omega arith);
+          by_places = place-costs-append 0 0 0 1 1 1 (costs-more is.costs _ _ _ (omega (arith, seen)) (omega (arith, seen)) (omega arith)) then.by_places;
         }))
 
     module _ (o : Order) (front : front_order b level ≡ Some o) (live : 0 < o.left) (t : State) (acts : List Act) (seen : 1 ≤ places_looked acts) where
@@ -141,26 +141,26 @@ module _ (side : Side) (price : ℕ) (priced : IsPrice price) (taker : ℕ) (tak
         then_more = more t (traded b level o taker taken) (with_part f part) (before ++ part ∷ []) amid_more (omega (arith, length_push before part))
 
       abbrev Cost : List Act → Type 0
-      Cost ys = Costs level (acts ++ ys) (3 * suc places) (5 * suc places + 1) (suc places + 1) × PlaceCosts level (acts ++ ys) 0 1 1
+      Cost ys = Costs level (acts ++ ys) (2 * suc places) (5 * suc places + 1) (suc places + 1) × PlaceCosts level (acts ++ ys) 1 1 1
 
       -- either the order was emptied, or nothing remains
-      cost : (ys : List Act) → Costs level acts 3 (5 + unless (o.left == taken)) (1 + unless (o.left == taken)) → Costs level ys (3 * places) (5 * places + 1) (places + 1) → PlaceCosts level ys 0 1 1
+      cost : (ys : List Act) → Costs level acts 2 (5 + unless (o.left == taken)) (1 + unless (o.left == taken)) → Costs level ys (2 * places) (5 * places + 1) (places + 1) → PlaceCosts level ys 1 1 1
           → (f.rest - taken ≡ 0 → ys ≡ []) → Cost ys
       cost ys look_costs more_costs more_places last = elim (cases_eq o.left taken) [
         | inl same ↦
             let emptied = ap unless (eq-eqb o.left taken same) in (
-              costs-more (costs-append look_costs more_costs) (3 * suc places) (5 * suc places + 1) (suc places + 1) (omega arith) (omega (arith, emptied)) (omega (arith, emptied)),
-              place-costs-append 0 0 0 0 1 1 (costs-more look_costs _ _ _ (omega (arith, seen)) (omega (arith, seen, emptied)) (omega (arith, seen, emptied))) more_places,
+              costs-more (costs-append look_costs more_costs) (2 * suc places) (5 * suc places + 1) (suc places + 1) (omega arith) (omega (arith, emptied)) (omega (arith, emptied)),
+              place-costs-append 0 0 0 1 1 1 (costs-more look_costs _ _ _ (omega (arith, seen)) (omega (arith, seen, emptied)) (omega (arith, seen, emptied))) more_places,
             )
         | inr other ↦
             let kept = ap unless (ne_eqb o.left taken other) in
             subst Cost (sym (last (omega (arith, other)))) (
-              costs-more (costs-append look_costs (costs-none level)) (3 * suc places) (5 * suc places + 1) (suc places + 1) (omega arith) (omega (arith, kept)) (omega (arith, kept)),
-              place-costs-append 0 1 1 0 0 0 (costs-more look_costs _ _ _ (omega (arith, seen)) (omega (arith, seen, kept)) (omega (arith, seen, kept))) (costs-more (costs-none level) _ _ _ (omega arith) (omega arith) (omega arith)),
+              costs-more (costs-append look_costs (costs-none level)) (2 * suc places) (5 * suc places + 1) (suc places + 1) (omega arith) (omega (arith, kept)) (omega (arith, kept)),
+              place-costs-append 0 1 1 1 0 0 (costs-more look_costs _ _ _ (omega (arith, seen)) (omega (arith, seen, kept)) (omega (arith, seen, kept))) (costs-more (costs-none level) _ _ _ (omega arith) (omega arith) (omega arith)),
             )
       ]
 
-      goes-live : (look : Look) → IsLive b level side depths takers taker o taken 3 (5 + unless (o.left == taken)) (1 + unless (o.left == taken)) t look acts → Goes (Some o) t look acts
+      goes-live : (look : Look) → IsLive b level side depths takers taker o taken 2 (5 + unless (o.left == taken)) (1 + unless (o.left == taken)) t look acts → Goes (Some o) t look acts
       goes-live look is = subst (λ l. Goes (Some o) t l acts) (sym is.look_is) (
           subst (λ l. Took side level taker quantity depths takers before (suc places) l (played (next (Live part)) t) (outcome (next (Live part)) t) (acts ++ made (next (Live part)) t))
           (sym (ap (λ c. cond c (looks (pass b level) f.rest) (first_part o taken (looks (traded b level o taker taken) (f.rest - taken)))) (ne_eqb o.left 0 (λ e. omega arith)))) (
@@ -180,7 +180,7 @@ module _ (side : Side) (price : ℕ) (priced : IsPrice price) (taker : ℕ) (tak
     goes : Took side level taker quantity depths takers before (suc places) (look_at (front_order b level) level taker b f.rest looks)
         (played (bind (look_front side level f.rest) next) s) (outcome (bind (look_front side level f.rest) next) s) (made (bind (look_front side level f.rest) next) s)
     goes = ends-bind (look_front side level f.rest) next s (Took side level taker quantity depths takers before (suc places) (look_at (front_order b level) level taker b f.rest looks))
-        (goes-on (front_order b level) refl _ _ _ (front-looks side price priced taker taker_in_range amid.reflects below f.rest))
+        (goes-on (front_order b level) refl _ _ _ (front-looks side price priced taker taker_in_range amid.reflects below f.rest some))
 
   takes-more : (places : ℕ) → Takes places → Takes (suc places)
   unfolding take_parts look

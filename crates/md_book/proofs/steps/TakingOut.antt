@@ -1,13 +1,13 @@
 -- The order at the front has less left, or leaves its queue.
 use Rattle.std.proofs.Common.{◌≡◌, ◌≢◌, ℕ, ◌+◌, ◌-◌, ◌<◌, ◌≤◌, ◌==◌, Bool, true, false, cond, List, [], ◌∷◌, refl, sym, ap, subst, ◌∙◌, Some, None, arith}
-use Rattle.std.specs.Prelude.{is_none, if◌then◌else◌, slice_get}
+use Rattle.std.specs.Prelude.{if◌then◌else◌, slice_get}
 use Rattle.std.specs.Option.{option_map}
 use Rattle.std.specs.FinMap as fin
 use Rattle.std.proofs.lemmas.Bool.{eqb-true, eqb-false, lt-ltb, le-ltb}
 use Rattle.std.proofs.lemmas.List.Elements.{recursion_from_All}
 use Rattle.md_history.specs.declared.acts.Act.{Act}
-use Rattle.md_history.specs.declared.acts.Op.TheVariants.{Get, Insert, Remove, Dequeue}
-use Rattle.md_history.specs.declared.acts.Reply.TheVariants.{Value, Flag}
+use Rattle.md_history.specs.declared.acts.Op.TheVariants.{Get, Remove, Put, Dequeue}
+use Rattle.md_history.specs.declared.acts.Reply.TheVariants.{Value}
 use Rattle.md_history.specs.Act.{act_of}
 use Rattle.md_history.specs.State.{State, map_at, queue_at, after}
 use Rattle.md_history.specs.Script.{Script, done, call}
@@ -16,8 +16,8 @@ use Rattle.md_book.specs.declared.commands.Side.{Side}
 use Rattle.md_book.specs.declared.maps.TheConstants.{LEVELS, OPEN_ORDERS}
 use Rattle.md_book.specs.Book.{Order, Book, front_order, pass}
 use Rattle.md_book.specs.Stands.{packed, open_order, IsInRange}
-use Rattle.md_book.proofs.books.Changes.{Sets, remove-sets, insert-sets, sets-again, dequeue-lines}
-use Rattle.md_book.proofs.steps.Costs.{Costs, costs-append, costs-more, costs-dequeue, costs-put_back, costs-taken}
+use Rattle.md_book.proofs.books.Changes.{Sets, remove-sets, put-sets, dequeue-lines}
+use Rattle.md_book.proofs.steps.Costs.{Costs, costs-append, costs-dequeue, costs-put, costs-taken}
 use Rattle.md_book.proofs.books.Lessened.{Has, All-has}
 use Rattle.md_book.proofs.sums.LookSums.{front-has}
 use Rattle.md_book.proofs.books.ChangedBooks.{with_less, open_order-with_less, open_order-own, front-with_less, sound-pass}
@@ -40,14 +40,14 @@ look_up o = act_of (Get OPEN_ORDERS o.name) (Value (Some (packed_order o)))
 -- where it is emptied
 pub record IsOut (less : Book) (level : ℕ) (o : Order) (side : Side) (depths takers : ℕ → ℕ) (emptied : Bool) (t : State) (acts : List Act) : Type 0 where
   pub reflects : Reflects t (if emptied then pass less level else less) side depths takers
-  pub costs : Costs level (look_up o ∷ acts) 2 (2 + unless emptied) (unless emptied)
+  pub costs : Costs level (look_up o ∷ acts) 1 (2 + unless emptied) (unless emptied)
 
 -- what is done with the order at a level's front
-abbrev pub put_out : ℕ → Order → ℕ → Bool → Script (Unit {0})
-put_out level o taken emptied = if emptied then call (Dequeue level) (λ _. done tt) else call (Insert OPEN_ORDERS o.name (packed_order o - taken)) (λ _. done tt)
-
-abbrev pub take_out : ℕ → Order → ℕ → Bool → Script (Unit {0})
-take_out level o taken emptied = call (Remove OPEN_ORDERS o.name) (λ _. put_out level o taken emptied)
+abbrev pub out_by : ℕ → Order → ℕ → Bool → Script (Unit {0})
+out_by level o taken emptied =
+    if emptied
+    then call (Remove OPEN_ORDERS o.name) (λ _. call (Dequeue level) (λ _. done tt))
+    else call (Put OPEN_ORDERS o.name (packed_order o - taken)) (λ _. done tt)
 
 module _ {s : State} {b : Book} {side : Side} {depths takers : ℕ → ℕ} (r : Reflects s b side depths takers) (level : ℕ) (below : level < LEVELS) (o : Order) (front : front_order b level ≡ Some o) (live : 0 < o.left) where
   has : Has b.orders o
@@ -70,7 +70,7 @@ module _ {s : State} {b : Book} {side : Side} {depths takers : ℕ → ℕ} (r :
     abbrev less : Book
     less = with_less b o.name taken
 
-    emptied_out : o.left ≡ taken → IsOut less level o side depths takers true (played (take_out level o taken true) s) (made (take_out level o taken true) s)
+    emptied_out : o.left ≡ taken → IsOut less level o side depths takers true (played (out_by level o taken true) s) (made (out_by level o taken true) s)
     emptied_out same =
         let none : open_order less o.name ≡ None = open_order-with_less b o taken r.sound has within ∙ ap (λ t. cond t (Some (packed o.account o.side o.price (o.left - taken))) None) (le-ltb 0 (o.left - taken) (omega arith)) in
         let without = reflects-less r removed o.name taken (subst (Sets s removed OPEN_ORDERS o.name) (sym none) gone) in
@@ -79,27 +79,25 @@ module _ {s : State} {b : Book} {side : Side} {depths takers : ℕ → ℕ} (r :
         let first : slice_get (queue_at removed level) 0 ≡ Some o.name = reflects-front without level below ∙ ap (option_map (λ p. p.name)) still in
         record {
           reflects = reflects-pass without (after removed (Dequeue level)) level sound (dequeue-lines removed level (omega (arith, below, without.queues)));
-          costs = subst (λ v. Costs level (look_up o ∷ act_of (Remove OPEN_ORDERS o.name) (Value v) ∷ act_of (Dequeue level) (Value (slice_get (queue_at removed level) 0)) ∷ []) 2 2 0) (sym front-stood)
-              (subst (λ v. Costs level (look_up o ∷ act_of (Remove OPEN_ORDERS o.name) (Value (Some (packed_order o))) ∷ act_of (Dequeue level) (Value v) ∷ []) 2 2 0) (sym first)
+          costs = subst (λ v. Costs level (look_up o ∷ act_of (Remove OPEN_ORDERS o.name) (Value v) ∷ act_of (Dequeue level) (Value (slice_get (queue_at removed level) 0)) ∷ []) 1 2 0) (sym front-stood)
+              (subst (λ v. Costs level (look_up o ∷ act_of (Remove OPEN_ORDERS o.name) (Value (Some (packed_order o))) ∷ act_of (Dequeue level) (Value v) ∷ []) 1 2 0) (sym first)
               (costs-append (costs-taken level OPEN_ORDERS o.name (packed_order o) (packed_order o)) (costs-dequeue level o.name)));
         }
 
-    lessened_out : o.left ≢ taken → IsOut less level o side depths takers false (played (take_out level o taken false) s) (made (take_out level o taken false) s)
+    lessened_out : o.left ≢ taken → IsOut less level o side depths takers false (played (out_by level o taken false) s) (made (out_by level o taken false) s)
     lessened_out other =
         let more : taken < o.left = omega (arith, other) in
-        let inserted = insert-sets removed OPEN_ORDERS o.name (packed_order o - taken) (omega (arith, gone.maps, r.maps)) gone.here in
+        let changed = put-sets s OPEN_ORDERS o.name (packed_order o - taken) (omega (arith, r.maps)) in
         let now : Some (packed_order o - taken) ≡ open_order less o.name =
         ap Some (packed-less o.account o.price o.left front-in_range.price front-in_range.left o.side taken within)
         ∙ sym (open_order-with_less b o taken r.sound has within ∙ ap (λ t. cond t (Some (packed o.account o.side o.price (o.left - taken))) None) (lt-ltb 0 (o.left - taken) (omega arith))) in
         record {
-          reflects = reflects-less r (after removed (Insert OPEN_ORDERS o.name (packed_order o - taken))) o.name taken (subst (Sets s (after removed (Insert OPEN_ORDERS o.name (packed_order o - taken))) OPEN_ORDERS o.name) now (sets-again gone inserted));
-          costs = subst (λ v. Costs level (look_up o ∷ act_of (Remove OPEN_ORDERS o.name) (Value v) ∷ act_of (Insert OPEN_ORDERS o.name (packed_order o - taken)) (Flag (is_none (fin.get (map_at removed OPEN_ORDERS) o.name))) ∷ []) 2 3 1) (sym front-stood)
-              (subst (λ v. Costs level (look_up o ∷ act_of (Remove OPEN_ORDERS o.name) (Value (Some (packed_order o))) ∷ act_of (Insert OPEN_ORDERS o.name (packed_order o - taken)) (Flag (is_none v)) ∷ []) 2 3 1) (sym gone.here)
-              (costs-more (costs-put_back level OPEN_ORDERS o.name (packed_order o) (packed_order o) (packed_order o - taken)) 2 3 1 (omega arith) (omega arith) (omega arith)));
+          reflects = reflects-less r (after s (Put OPEN_ORDERS o.name (packed_order o - taken))) o.name taken (subst (Sets s (after s (Put OPEN_ORDERS o.name (packed_order o - taken))) OPEN_ORDERS o.name) now changed);
+          costs = costs-put level OPEN_ORDERS o.name (Some (packed_order o)) (fin.get (map_at s OPEN_ORDERS) o.name) (packed_order o - taken);
         }
 
-    pub taken_out : IsOut less level o side depths takers (o.left == taken) (played (take_out level o taken (o.left == taken)) s) (made (take_out level o taken (o.left == taken)) s)
-    taken_out = elim (o.left == taken) as (λ t. (o.left == taken) ≡ t → IsOut less level o side depths takers t (played (take_out level o taken t) s) (made (take_out level o taken t) s)) [
+    pub taken_out : IsOut less level o side depths takers (o.left == taken) (played (out_by level o taken (o.left == taken)) s) (made (out_by level o taken (o.left == taken)) s)
+    taken_out = elim (o.left == taken) as (λ t. (o.left == taken) ≡ t → IsOut less level o side depths takers t (played (out_by level o taken t) s) (made (out_by level o taken t) s)) [
       | true ↦ λ e. emptied_out (eqb-true o.left taken e)
       | false ↦ λ e. lessened_out (eqb-false o.left taken e)
     ] refl

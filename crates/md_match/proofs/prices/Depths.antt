@@ -1,11 +1,10 @@
 -- What raising and lowering a level's depth leaves.
 use Rattle.std.proofs.Common.{◌≡◌, ◌≢◌, ℕ, ◌+◌, ◌-◌, ◌^◌, ◌<◌, ◌==◌, ◌⊎◌, min, nat_lt, Bool, true, false, cond, List, [], ◌∷◌, length, refl, sym, ap, subst, ◌∙◌, inl, inr, Option, Some, None, arith}
-use Rattle.std.specs.Prelude.{is_none}
 use Rattle.std.specs.FinMap as fin
-use Rattle.std.proofs.lemmas.Bool.{cases_eq, eqb-true, eqb-false, ne_eqb, lt-ltb, le-ltb}
+use Rattle.std.proofs.lemmas.Bool.{cases_eq, eqb-true, eqb-false, lt-ltb, le-ltb}
 use Rattle.md_history.specs.declared.acts.Act.{Act}
-use Rattle.md_history.specs.declared.acts.Op.TheVariants.{Insert, Remove}
-use Rattle.md_history.specs.declared.acts.Reply.TheVariants.{Value, Flag}
+use Rattle.md_history.specs.declared.acts.Op.TheVariants.{Get, Remove, Put}
+use Rattle.md_history.specs.declared.acts.Reply.TheVariants.{Value}
 use Rattle.md_history.specs.Act.{act_of}
 use Rattle.md_history.specs.State.{State, map_at, after}
 use Rattle.md_history.specs.Script.{Script, done, call}
@@ -17,9 +16,9 @@ use Rattle.md_book.specs.declared.maps.TheConstants.{DEPTHS}
 use Rattle.md_book.specs.Book.{level_of}
 use Rattle.md_book.specs.Stands.{unless_0}
 use Rattle.md_book.specs.Scripts.{value_or_0}
-use Rattle.md_book.proofs.books.Changes.{Sets, remove-sets, insert-sets, sets-again}
-use Rattle.md_book.proofs.books.Raises.{value_or_0-unless_0}
-use Rattle.md_book.proofs.steps.Costs.{Costs, costs-append, costs-more, costs-absent, costs-new, costs-removed, costs-replaced}
+use Rattle.md_book.proofs.books.Changes.{Sets, remove-sets, put-sets}
+use Rattle.md_book.proofs.books.Raises.{value_or_0-unless_0, unless_0-some}
+use Rattle.md_book.proofs.steps.Costs.{Costs, costs-append, costs-more, costs-put, costs-taken}
 use Rattle.md_match.specs.declared.maps.TheConstants.{PRICE_BITS}
 use Rattle.md_match.specs.Stands.{ShowsPrices}
 use Rattle.md_match.specs.Scripts.{open_level, close_level, raise_level, lower_level}
@@ -62,39 +61,32 @@ module _ {s : State} {deep : Side → ℕ → Bool} (deep' : Side → ℕ → Bo
   gone : Sets s removed DEPTHS level None
   gone = remove-sets s DEPTHS level (omega (arith, below))
 
+  abbrev stood_at : Option ℕ
+  stood_at = fin.get (map_at s DEPTHS) level
+
   -- with a depth put there
   abbrev put : ℕ → State
-  put depth = after removed (Insert DEPTHS level depth)
+  put depth = after s (Put DEPTHS level depth)
 
-  puts : (depth : ℕ) → Sets s (put depth) DEPTHS level (Some depth)
-  puts depth = sets-again gone (insert-sets removed DEPTHS level depth (omega (arith, gone.maps, below)) gone.here)
+  puts : (depth : ℕ) → depth ≢ 0 → Sets s (put depth) DEPTHS level (unless_0 depth)
+  puts depth some = subst (Sets s (put depth) DEPTHS level) (unless_0-some depth some) (put-sets s DEPTHS level depth (omega (arith, below)))
 
   value : value_or_0 (Value (fin.get (map_at s DEPTHS) level)) ≡ d
   value = ap (λ o. value_or_0 (Value o)) stood ∙ value_or_0-unless_0 d
-
-  some-unless : (n : ℕ) → n ≢ 0 → Some n ≡ unless_0 n
-  some-unless n some = ap (λ b. cond b None (Some n)) (sym (ne_eqb n 0 some))
 
   -- a change of depths leaves the price bits
   beside-depths : {t : State} {now : Option ℕ} → Sets s t DEPTHS level now → ShowsPrices t deep
   beside-depths sets = shows-same (sets.other_maps PRICE_BITS (λ e. omega arith)) (λ _ _. refl) shows
 
-  abbrev replaced : Option ℕ → ℕ → List Act
-  replaced o depth = act_of (Remove DEPTHS level) (Value o) ∷ act_of (Insert DEPTHS level depth) (Flag true) ∷ []
-
-  replaces : (depth : ℕ) → act_of (Remove DEPTHS level) (Value (fin.get (map_at s DEPTHS) level)) ∷ act_of (Insert DEPTHS level depth) (Flag (is_none (fin.get (map_at removed DEPTHS) level))) ∷ [] ≡ replaced (unless_0 d) depth
-  replaces depth =
-      ap (λ o. act_of (Remove DEPTHS level) (Value (fin.get (map_at s DEPTHS) level)) ∷ act_of (Insert DEPTHS level depth) (Flag (is_none o)) ∷ []) gone.here
-      ∙ ap (λ o. act_of (Remove DEPTHS level) (Value o) ∷ act_of (Insert DEPTHS level depth) (Flag true) ∷ []) stood
-
   module _ (some : 0 < d) (was : deep side i ≡ true) (now : deep' side i ≡ nat_lt 0 (d - by)) where
     stood-some : fin.get (map_at s DEPTHS) level ≡ Some d
-    stood-some = stood ∙ sym (some-unless d (λ e. omega (arith, e)))
+    stood-some = stood ∙ sym (unless_0-some d (λ e. omega (arith, e)))
+
+    abbrev put_if : ℕ → Bool → Script (Unit {0})
+    put_if v none = cond none (call (Remove DEPTHS level) (λ _. close_level level)) (call (Put DEPTHS level v) (λ _. done tt))
 
     abbrev Lowers : ℕ → Bool → Type 0
-    Lowers v b =
-        let p : Script Bool = cond b (close_level level) (call (Insert DEPTHS level v) (λ _. done false)) in
-        Changed s level (d - by) deep' q 0 7 1 (played p removed) (act_of (Remove DEPTHS level) (Value (fin.get (map_at s DEPTHS) level)) ∷ made p removed)
+    Lowers v none = Changed s level (d - by) deep' q 3 7 1 (played (put_if v none) s) (act_of (Get DEPTHS level) (Value stood_at) ∷ made (put_if v none) s)
 
     lowers-gone : d - by ≡ 0 → Lowers (d - by) true
     lowers-gone none =
@@ -104,24 +96,19 @@ module _ {s : State} {deep : Side → ℕ → Bool} (deep' : Side → ℕ → Bo
           sets = subst (Sets s removed DEPTHS level) (sym (ap unless_0 none)) gone;
           beside = noted.beside;
           prices = noted.prices;
-          costs = costs-append (subst (λ o. Costs q (act_of (Remove DEPTHS level) (Value o) ∷ []) 0 2 0) (sym stood-some) (costs-removed q DEPTHS level d)) noted.costs;
+          costs = costs-append (subst (λ o. Costs q (act_of (Get DEPTHS level) (Value o) ∷ act_of (Remove DEPTHS level) (Value o) ∷ []) 1 2 0) (sym stood-some) (costs-taken q DEPTHS level d d)) noted.costs;
         }
 
     lowers-some : d - by ≢ 0 → Lowers (d - by) false
-    lowers-some left = record {
-      mid = put (d - by);
-      sets = subst (Sets s (put (d - by)) DEPTHS level) (some-unless (d - by) left) (puts (d - by));
-      beside = beside-same (put (d - by));
-      prices = shows-same ((puts (d - by)).other_maps PRICE_BITS (λ e. omega arith)) (agree-all side i deep deep' agree (now ∙ lt-ltb 0 (d - by) (omega (arith, left)) ∙ sym was)) shows;
-      costs = subst (λ xs. Costs q xs 0 7 1) (sym (replaces (d - by))) (lowered-costs (unless_0 d) (stood-is (λ e. omega (arith, e))));
-    }
-      where
-        stood-is : (d ≡ 0 → ⊥) → unless_0 d ≡ Some d
-        stood-is h = sym (some-unless d h)
-
-        lowered-costs : (o : Option ℕ) → o ≡ Some d → Costs q (act_of (Remove DEPTHS level) (Value o) ∷ act_of (Insert DEPTHS level (d - by)) (Flag true) ∷ []) 0 7 1
-        lowered-costs o e = subst (λ o. Costs q (act_of (Remove DEPTHS level) (Value o) ∷ act_of (Insert DEPTHS level (d - by)) (Flag true) ∷ []) 0 7 1) (sym e)
-            (costs-more (costs-replaced q DEPTHS level d (d - by)) 0 7 1 (omega arith) (omega arith) (omega arith))
+    lowers-some left =
+        let sets = puts (d - by) left in
+        record {
+          mid = put (d - by);
+          sets = sets;
+          beside = beside-same (put (d - by));
+          prices = shows-same (sets.other_maps PRICE_BITS (λ e. omega arith)) (agree-all side i deep deep' agree (now ∙ lt-ltb 0 (d - by) (omega (arith, left)) ∙ sym was)) shows;
+          costs = costs-more (costs-put q DEPTHS level stood_at stood_at (d - by)) 3 7 1 (omega arith) (omega arith) (omega arith);
+        }
 
     lowers : Lowers (d - by) ((d - by) == 0)
     lowers = elim ((d - by) == 0) as (λ b. ((d - by) == 0) ≡ b → Lowers (d - by) b) [
@@ -130,37 +117,36 @@ module _ {s : State} {deep : Side → ℕ → Bool} (deep' : Side → ℕ → Bo
     ] refl
 
     -- so a depth falls
-    pub lower-changed : Changed s level (d - by) deep' q 0 7 1 (played (lower_level level by) s) (made (lower_level level by) s)
+    pub lower-changed : Changed s level (d - by) deep' q 3 7 1 (played (lower_level level by) s) (made (lower_level level by) s)
     lower-changed = subst (λ v. Lowers (v - by) ((v - by) == 0)) (sym value) lowers
 
   module _ (more : 0 < by) (room : d + by < 2 ^ 64) (was : deep side i ≡ nat_lt 0 d) (now : deep' side i ≡ true) where
     abbrev Raises : ℕ → Bool → Type 0
     Raises v b =
-        let p : Script Bool = cond b (open_level level) (done false) in
-        Changed s level (d + by) deep' q 3 12 3 (played p (put v)) (act_of (Remove DEPTHS level) (Value (fin.get (map_at s DEPTHS) level)) ∷ act_of (Insert DEPTHS level v) (Flag (is_none (fin.get (map_at removed DEPTHS) level))) ∷ made p (put v))
+        let p : Script (Unit {0}) = cond b (open_level level) (done tt) in
+        Changed s level (d + by) deep' q 3 9 3 (played p (put v)) (act_of (Get DEPTHS level) (Value stood_at) ∷ act_of (Put DEPTHS level v) (Value stood_at) ∷ made p (put v))
 
-    put-sets : Sets s (put (d + by)) DEPTHS level (unless_0 (d + by))
-    put-sets = subst (Sets s (put (d + by)) DEPTHS level) (some-unless (d + by) (λ e. omega (arith, e))) (puts (d + by))
-
-    put-costs : Costs q (act_of (Remove DEPTHS level) (Value (fin.get (map_at s DEPTHS) level)) ∷ act_of (Insert DEPTHS level (d + by)) (Flag (is_none (fin.get (map_at removed DEPTHS) level))) ∷ []) 1 4 1
-    put-costs = subst (λ xs. Costs q xs 1 4 1) (sym (replaces (d + by))) (any-costs (unless_0 d))
-      where
-        any-costs : (o : Option ℕ) → Costs q (act_of (Remove DEPTHS level) (Value o) ∷ act_of (Insert DEPTHS level (d + by)) (Flag true) ∷ []) 1 4 1
-        any-costs None = costs-append (costs-absent q DEPTHS level) (costs-new q DEPTHS level (d + by))
-        any-costs (Some x) = costs-more (costs-replaced q DEPTHS level x (d + by)) 1 4 1 (omega arith) (omega arith) (omega arith)
+    sum-sets : Sets s (put (d + by)) DEPTHS level (unless_0 (d + by))
+    sum-sets = puts (d + by) (λ e. omega (arith, e))
 
     raises-none : Raises (d + by) true
     raises-none =
-        let noted = open-noted deep' (beside-depths put-sets) (omega (arith, put-sets.maps, below)) side i low agree q now in
-        record { mid = put (d + by); sets = put-sets; beside = noted.beside; prices = noted.prices; costs = costs-append put-costs noted.costs }
+        let noted = open-noted deep' (beside-depths sum-sets) (omega (arith, sum-sets.maps, below)) side i low agree q now in
+        record {
+          mid = put (d + by);
+          sets = sum-sets;
+          beside = noted.beside;
+          prices = noted.prices;
+          costs = costs-append (costs-put q DEPTHS level stood_at stood_at (d + by)) noted.costs;
+        }
 
     raises-some : d ≢ 0 → Raises (d + by) false
     raises-some stands = record {
       mid = put (d + by);
-      sets = put-sets;
+      sets = sum-sets;
       beside = beside-same (put (d + by));
-      prices = shows-same (put-sets.other_maps PRICE_BITS (λ e. omega arith)) (agree-all side i deep deep' agree (now ∙ sym (was ∙ lt-ltb 0 d (omega (arith, stands))))) shows;
-      costs = costs-more put-costs 3 12 3 (omega arith) (omega arith) (omega arith);
+      prices = shows-same (sum-sets.other_maps PRICE_BITS (λ e. omega arith)) (agree-all side i deep deep' agree (now ∙ sym (was ∙ lt-ltb 0 d (omega (arith, stands))))) shows;
+      costs = costs-more (costs-put q DEPTHS level stood_at stood_at (d + by)) 3 9 3 (omega arith) (omega arith) (omega arith);
     }
 
     raises : Raises (d + by) (d == 0)
@@ -170,7 +156,7 @@ module _ {s : State} {deep : Side → ℕ → Bool} (deep' : Side → ℕ → Bo
     ] refl
 
     -- so a depth grows
-    pub raise-changed : Changed s level (d + by) deep' q 3 12 3 (played (raise_level level by) s) (made (raise_level level by) s)
+    pub raise-changed : Changed s level (d + by) deep' q 3 9 3 (played (raise_level level by) s) (made (raise_level level by) s)
     raise-changed =
         subst (λ v. Raises (min (v + by) (2 ^ 64 - 1)) (v == 0)) (sym value)
         (subst (λ v. Raises v (d == 0)) (sum-is (d + by) room) raises)

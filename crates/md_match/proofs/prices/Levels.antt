@@ -84,12 +84,15 @@ module _ {s : State} {deep : Side → ℕ → Bool} (deep' : Side → ℕ → Bo
     summary-before : Tells (word_at t skey) (is_some_word s side)
     summary-before = subst (λ n. Tells n (is_some_word s side)) (sym (word-other first skey (λ e. word-apart side side w w-low (sym e)))) (shows.summaries side)
 
-  abbrev Q : ℕ → ℕ → ℕ → State → Bool → List Act → Type 0
+  abbrev Q : ℕ → ℕ → ℕ → State → Unit {0} → List Act → Type 0
   Q r wr n t _ acts = Noted s deep' q r wr n t acts
 
   module _ (opens : deep' side i ≡ true) where
-    abbrev opening : Script Bool
-    opening = bind (set_bit key k) (λ b. cond b (set_bit skey w) (done false))
+    abbrev then_set : Bool → Script (Unit {0})
+    then_set was_empty = cond was_empty (bind (set_bit skey w) (λ _. done tt)) (done tt)
+
+    abbrev opening : Script (Unit {0})
+    opening = bind (set_bit key k) then_set
 
     abbrev t1 : State
     t1 = played (set_bit key k) s
@@ -106,42 +109,45 @@ module _ {s : State} {deep : Side → ℕ → Bool} (deep' : Side → ℕ → Bo
     below1 : PRICE_BITS < length t1.maps
     below1 = omega (arith, set1.sets.maps, below)
 
-    was-0 : Noted s deep' q 2 8 2 (played (set_bit skey w) t1) (made (set_bit key k) s ++ made (set_bit skey w) t1)
+    was-0 : Noted s deep' q 2 6 2 (played (then_set true) t1) (made (set_bit key k) s ++ made (then_set true) t1)
     was-0 =
         let set2 = set-rewrites t1 skey below1 w (omega (arith, w-low)) in
-        record {
+        ends-bind (set_bit skey w) (λ _. done (tt {0})) t1 (λ t _ acts. Noted s deep' q 2 6 2 t (made (set_bit key k) s ++ acts)) (record {
           prices = shows-summed deep' shows side w w-low (with_bit (word_at s key) k) set1 told1 others-agree (with_bit (word_at t1 skey) w) set2
               (tells-set (summary-before set1) w (is_some_word t1 side) (omega (arith, w-low)) (in-summary t1 w w-low (subst (λ n. 0 < n) (sym (word-here set1)) some1)) (summary-agrees set1));
           beside = beside-then (rewrites-beside set1) (rewrites-beside set2);
-          costs = costs-append (set-costs s key below k q) (set-costs t1 skey below1 w q);
-        }
+          costs = costs-append (set-costs s key below k q) (costs-append (set-costs t1 skey below1 w q) (costs-none q));
+        })
 
-    was-some : word_at s key ≢ 0 → Noted s deep' q 2 8 2 t1 (made (set_bit key k) s ++ [])
+    was-some : word_at s key ≢ 0 → Noted s deep' q 2 6 2 t1 (made (set_bit key k) s ++ [])
     was-some some = record {
       prices = shows-kept deep' shows side w w-low (with_bit (word_at s key) k) set1 told1 others-agree (lt-ltb 0 (with_bit (word_at s key) k) some1 ∙ sym (lt-ltb 0 (word_at s key) (omega (arith, some))));
       beside = rewrites-beside set1;
-      costs = costs-more (costs-append (set-costs s key below k q) (costs-none q)) 2 8 2 (omega arith) (omega arith) (omega arith);
+      costs = costs-more (costs-append (set-costs s key below k q) (costs-none q)) 2 6 2 (omega arith) (omega arith) (omega arith);
     }
 
-    opened : Noted s deep' q 2 8 2 (played opening s) (made opening s)
-    opened = ends-bind (set_bit key k) (λ b. cond b (set_bit skey w) (done false)) s (Q 2 8 2)
-        (elim (word_at s key == 0) as (λ b. (word_at s key == 0) ≡ b → Noted s deep' q 2 8 2 (played {R = Bool} (cond b (set_bit skey w) (done false)) t1) (made (set_bit key k) s ++ made {R = Bool} (cond b (set_bit skey w) (done false)) t1)) [
+    opened : Noted s deep' q 2 6 2 (played opening s) (made opening s)
+    opened = ends-bind (set_bit key k) then_set s (Q 2 6 2)
+        (elim (word_at s key == 0) as (λ b. (word_at s key == 0) ≡ b → Noted s deep' q 2 6 2 (played (then_set b) t1) (made (set_bit key k) s ++ made (then_set b) t1)) [
           | true ↦ λ _. was-0
           | false ↦ λ e. was-some (eqb-false (word_at s key) 0 e)
         ] refl)
 
     -- opening a level notes that it has depth
-    pub open-noted : Noted s deep' q 2 8 2 (played (open_level (level_of side (i + 1))) s) (made (open_level (level_of side (i + 1))) s)
+    pub open-noted : Noted s deep' q 2 6 2 (played (open_level (level_of side (i + 1))) s) (made (open_level (level_of side (i + 1))) s)
     open-noted =
         let level = level_of side (i + 1) in
-        let P : ℕ → ℕ → ℕ → ℕ → Type 0 = λ a b c d. let p = bind (set_bit a b) (λ x. cond x (set_bit c d) (done false)) in Noted s deep' q 2 8 2 (played p s) (made p s) in
+        let P : ℕ → ℕ → ℕ → ℕ → Type 0 = λ a b c d. let p = bind (set_bit a b) (λ x. cond x (bind (set_bit c d) (λ _. done tt)) (done tt)) in Noted s deep' q 2 6 2 (played p s) (made p s) in
         subst (λ a. P a (bit_of level) (summary_of level) (word_of level)) (sym (key-level i low side))
         (subst (λ b. P key b (summary_of level) (word_of level)) (sym (bit-level i low side))
         (subst (λ c. P key k c (word_of level)) (sym (summary-level i low side)) (subst (P key k skey) (sym (word-level i low side)) opened)))
 
   module _ (was : deep side i ≡ true) (closes : deep' side i ≡ false) where
-    abbrev closing : Script Bool
-    closing = bind (clear_bit key k) (λ b. cond b (clear_bit skey w) (done false))
+    abbrev then_clear : Bool → Script (Unit {0})
+    then_clear is_empty = cond is_empty (bind (clear_bit skey w) (λ _. done tt)) (done tt)
+
+    abbrev closing : Script (Unit {0})
+    closing = bind (clear_bit key k) then_clear
 
     abbrev c1 : State
     c1 = played (clear_bit key k) s
@@ -164,38 +170,38 @@ module _ {s : State} {deep : Side → ℕ → Bool} (deep' : Side → ℕ → Bo
     below2 : PRICE_BITS < length c1.maps
     below2 = omega (arith, clear1.sets.maps, below)
 
-    is-0 : word1 ≡ 0 → Noted s deep' q 0 5 1 (played (clear_bit skey w) c1) (made (clear_bit key k) s ++ made (clear_bit skey w) c1)
+    is-0 : word1 ≡ 0 → Noted s deep' q 2 5 1 (played (then_clear true) c1) (made (clear_bit key k) s ++ made (then_clear true) c1)
     is-0 none =
         let clear2 = clear-rewrites c1 skey below2 w in
         let stood2 = stood-some c1 skey (tells-some (summary-before clear1) w (omega (arith, w-low)) (in-summary s w w-low some0)) in
-        record {
+        ends-bind (clear_bit skey w) (λ _. done (tt {0})) c1 (λ t _ acts. Noted s deep' q 2 5 1 t (made (clear_bit key k) s ++ acts)) (record {
           prices = shows-summed deep' shows side w w-low word1 clear1 kept1 others-agree (without_bit (word_at c1 skey) w) clear2
               (tells-clear (summary-before clear1) w (is_some_word c1 side) (omega (arith, w-low)) (and_right (nat_lt w 16) (nat_lt 0 (word_at c1 key)) (le-ltb 0 (word_at c1 key) (omega (arith, word-here clear1, none)))) (summary-agrees clear1));
           beside = beside-then (rewrites-beside clear1) (rewrites-beside clear2);
-          costs = costs-append (clear-gone s key below k q stood0.0 stood0.1 none) (clear-most c1 skey below2 w q stood2.0 stood2.1);
-        }
+          costs = costs-append (clear-gone s key below k q stood0.0 stood0.1 none) (costs-append (clear-most c1 skey below2 w q stood2.0 stood2.1) (costs-none q));
+        })
 
-    is-some : word1 ≢ 0 → Noted s deep' q 0 5 1 c1 (made (clear_bit key k) s ++ [])
+    is-some : word1 ≢ 0 → Noted s deep' q 2 5 1 c1 (made (clear_bit key k) s ++ [])
     is-some some = record {
       prices = shows-kept deep' shows side w w-low word1 clear1 kept1 others-agree (lt-ltb 0 word1 (omega (arith, some)) ∙ sym (lt-ltb 0 (word_at s key) some0));
       beside = rewrites-beside clear1;
-      costs = costs-more (costs-append (clear-most s key below k q stood0.0 stood0.1) (costs-none q)) 0 5 1 (omega arith) (omega arith) (omega arith);
+      costs = costs-more (costs-append (clear-most s key below k q stood0.0 stood0.1) (costs-none q)) 2 5 1 (omega arith) (omega arith) (omega arith);
     }
 
-    closed : Noted s deep' q 0 5 1 (played closing s) (made closing s)
+    closed : Noted s deep' q 2 5 1 (played closing s) (made closing s)
     closed =
-        let P : Bool → Type 0 = λ b. Noted s deep' q 0 5 1 (played {R = Bool} (cond b (clear_bit skey w) (done false)) c1) (made (clear_bit key k) s ++ made {R = Bool} (cond b (clear_bit skey w) (done false)) c1) in
+        let P : Bool → Type 0 = λ b. Noted s deep' q 2 5 1 (played (then_clear b) c1) (made (clear_bit key k) s ++ made (then_clear b) c1) in
         let each : (b : Bool) → (word1 == 0) ≡ b → P b = λ b. elim b as (λ b. (word1 == 0) ≡ b → P b) [
           | true ↦ λ e. is-0 (eqb-true word1 0 e)
           | false ↦ λ e. is-some (eqb-false word1 0 e)
         ] in
-        ends-bind (clear_bit key k) (λ b. cond b (clear_bit skey w) (done false)) s (Q 0 5 1) (subst P (sym (clear-outcome s key below k)) (each (word1 == 0) refl))
+        ends-bind (clear_bit key k) then_clear s (Q 2 5 1) (subst P (sym (clear-outcome s key below k)) (each (word1 == 0) refl))
 
     -- closing a level notes that it has none
-    pub close-noted : Noted s deep' q 0 5 1 (played (close_level (level_of side (i + 1))) s) (made (close_level (level_of side (i + 1))) s)
+    pub close-noted : Noted s deep' q 2 5 1 (played (close_level (level_of side (i + 1))) s) (made (close_level (level_of side (i + 1))) s)
     close-noted =
         let level = level_of side (i + 1) in
-        let P : ℕ → ℕ → ℕ → ℕ → Type 0 = λ a b c d. let p = bind (clear_bit a b) (λ x. cond x (clear_bit c d) (done false)) in Noted s deep' q 0 5 1 (played p s) (made p s) in
+        let P : ℕ → ℕ → ℕ → ℕ → Type 0 = λ a b c d. let p = bind (clear_bit a b) (λ x. cond x (bind (clear_bit c d) (λ _. done tt)) (done tt)) in Noted s deep' q 2 5 1 (played p s) (made p s) in
         subst (λ a. P a (bit_of level) (summary_of level) (word_of level)) (sym (key-level i low side))
         (subst (λ b. P key b (summary_of level) (word_of level)) (sym (bit-level i low side))
         (subst (λ c. P key k c (word_of level)) (sym (summary-level i low side)) (subst (P key k skey) (sym (word-level i low side)) closed)))

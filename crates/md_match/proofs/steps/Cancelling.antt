@@ -33,6 +33,7 @@ use Rattle.md_book.proofs.steps.TakingOut.{packed_order}
 use Rattle.md_match.specs.declared.commands.MatchCommand.TheVariants.{Cancel, Depth}
 use Rattle.md_match.specs.declared.commands.MatchReply.{MatchReply}
 use Rattle.md_match.specs.declared.commands.MatchReply.TheVariants as reply
+use Rattle.md_match.specs.declared.limits.TheConstants.{MATCH_READS, MATCH_WRITES, MATCH_NODES}
 use Rattle.md_match.specs.declared.maps.TheConstants.{PRICE_BITS}
 use Rattle.md_match.specs.Matching.{cancel_match}
 use Rattle.md_match.specs.Stands.{has_depth, StandsForMatch}
@@ -45,7 +46,7 @@ use Rattle.md_match.proofs.steps.Frames.{reflects-beside}
 use Rattle.md_match.proofs.steps.Looks.{depths-agree, deep-at}
 use Rattle.md_match.proofs.steps.Stepping.{IsStep, MakesStep}
 
-few : {q : ℕ} {acts : List Act} {r w n : ℕ} → Costs q acts r w n → r + 2 ≤ 39 → w + 3 ≤ 99 → n ≤ 18 → AreFew match_bounds acts
+few : {q : ℕ} {acts : List Act} {r w n : ℕ} → Costs q acts r w n → r + 1 ≤ MATCH_READS → w + 3 ≤ MATCH_WRITES → n ≤ MATCH_NODES → AreFew match_bounds acts
 few costs r w n = let all = within-costs costs in record { reads = omega (arith, all.reads_few); writes = omega (arith, all.writes_few); nodes = omega (arith, all.nodes_few) }
 
 -- what follows once an order was found
@@ -113,9 +114,9 @@ module _ (s : State) (b : Book) (name : ℕ) (room : HasMapsAndQueues s) (stands
     less-left : depth less level ≡ depth b level - o.left
     less-left = omega (arith, here)
 
-    lowered : Changed removed level (depth b level - o.left) (has_depth less) 0 0 7 1 (played (lower_level level o.left) removed) (made (lower_level level o.left) removed)
+    lowered : Changed removed level (depth b level - o.left) (has_depth less) 0 3 7 1 (played (lower_level level o.left) removed) (made (lower_level level o.left) removed)
     lowered =
-        subst (λ n. Changed removed n (depth b level - o.left) (has_depth less) 0 0 7 1 (played (lower_level n o.left) removed) (made (lower_level n o.left) removed)) i-level
+        subst (λ n. Changed removed n (depth b level - o.left) (has_depth less) 0 3 7 1 (played (lower_level n o.left) removed) (made (lower_level n o.left) removed)) i-level
         (lower-changed (has_depth less) (shows-same bits-still (λ _ _. refl) stands.prices) below o.side i i-low
         (depths-agree b less o.side i i-low (λ at apart. sym (depth_other s b name room stands.shows o is at (λ e. apart (e ∙ sym i-level))))) 0 (depth b level) o.left
         (subst (λ n. fin.get (map_at removed DEPTHS) n ≡ unless_0 (depth b level)) (sym i-level) (ap (λ m. fin.get m level) (out.other_maps DEPTHS (λ e. omega arith)) ∙ stands.shows.depths level))

@@ -1,5 +1,5 @@
 -- After a sweep the taker's sum is raised, and what remains is placed or dropped.
-use Rattle.std.proofs.Common.{◌≡◌, ◌≢◌, ℕ, ◌+◌, ◌-◌, ◌^◌, ◌<◌, ◌≤◌, ◌==◌, min, nat_lt, true, false, cond, List, [], ◌∷◌, length, refl, sym, ap, subst, ◌∙◌, arith}
+use Rattle.std.proofs.Common.{◌≡◌, ◌≢◌, ℕ, ◌+◌, ◌-◌, ◌^◌, ◌<◌, ◌≤◌, ◌==◌, nat_lt, true, false, cond, List, [], ◌∷◌, length, refl, sym, ap, subst, ◌∙◌, arith}
 use Rattle.std.specs.Prelude.{All, is_none}
 use Rattle.std.specs.FinMap as fin
 use Rattle.std.proofs.lemmas.Bool.{eqb-true, eqb-false, eq-eqb, ne_eqb, lt-ltb, cond_both}
@@ -17,14 +17,14 @@ use Rattle.md_book.specs.declared.limits.TheConstants.{MAX_PRICE}
 use Rattle.md_book.specs.declared.maps.TheConstants.{OPEN_ORDERS, DEPTHS}
 use Rattle.md_book.specs.Book.{Order, Book, level_of, depth}
 use Rattle.md_book.specs.Stands.{packed, unless_0, Shows}
-use Rattle.md_book.specs.Scripts.{value_or_0, raise}
+use Rattle.md_book.specs.Scripts.{raise}
 use Rattle.md_book.specs.Filling.{taker_sums}
 use Rattle.md_book.specs.Commands.{IsPlace}
 use Rattle.md_book.proofs.books.Changes.{Sets}
 use Rattle.md_book.proofs.books.Orders.{with_order, depth-room, depth-here, depth-other}
 use Rattle.md_book.proofs.books.Raises.{raise-sets}
 use Rattle.md_book.proofs.books.Reflects.{reflects-shows, reflects-taker}
-use Rattle.md_book.proofs.books.Replacing.{replace-costs}
+use Rattle.md_book.proofs.books.Replacing.{raise-costs}
 use Rattle.md_book.proofs.books.Sizes.{HasMapsAndQueues}
 use Rattle.md_book.proofs.steps.Costs.{Costs, costs-append, costs-more, costs-none, costs-insert, costs-enqueue}
 use Rattle.md_book.proofs.steps.Placing.{placed-shows}
@@ -67,14 +67,14 @@ module _ (from : Side) (taker : ℕ) (takers : ℕ → ℕ) {s : State} {b : Boo
       let new_sum : takers taker + taken ≡ taker_sum from b taker = omega (arith, amid.lag taker, own) in
       let below : taker_sums from < length s.maps = omega (arith, r.maps, (sums-low from).1) in
       let sets = subst (λ n. Sets s raised (taker_sums from) taker (unless_0 n)) new_sum
-      (raise-sets s (taker_sums from) taker (takers taker) taken below (r.has_takers taker) (omega (arith, new_sum, taker_sum-le b taker from, traded-room b r.sound))) in
+      (raise-sets s (taker_sums from) taker (takers taker) taken below (r.has_takers taker) some (omega (arith, new_sum, taker_sum-le b taker from, traded-room b r.sound))) in
       let others : (account : ℕ) → account ≢ taker → takers account ≡ taker_sum from b account = λ account apart.
       omega (arith, amid.lag account, (let no : at_account taker account taken ≡ 0 = ap (λ t. cond t taken 0) (ne_eqb taker account (λ e. apart (sym e))) in no)) in
       record {
         shows = reflects-shows raised b (depth b) (taker_sum from b) from (reflects-taker r raised taker sets others) (λ _. refl) (λ _. refl);
         prices = shows-same (spared (raise (taker_sums from) taker taken) s (spares-taker from taker taken)) (λ _ _. refl) amid.prices;
         maps = omega (arith, same-maps (raise (taker_sums from) taker taken) s, amid.maps);
-        costs = replace-costs q (taker_sums from) taker s below (λ v. min (value_or_0 v + taken) (2 ^ 64 - 1));
+        costs = raise-costs q s (taker_sums from) taker taken;
       }
 
   -- raising the taker's sum, or nothing if nothing was taken
@@ -99,7 +99,7 @@ placing o =
 pub record Placed (may : Type 0) (b : Book) (q : ℕ) (t : State) (acts : List Act) : Type 0 where
   pub shows : may → Shows t b
   pub prices : ShowsPrices t (has_depth b)
-  pub costs : Costs q acts 4 16 5
+  pub costs : Costs q acts 4 13 5
 
 module _ (s : State) (b : Book) (o : Order) (maps : MATCH_MAPS ≤ length s.maps) (room : HasMapsAndQueues s) (shows : Shows s b) (prices : ShowsPrices s (has_depth b)) (is : IsPlace o.name o.account o.price o.left) where
   abbrev level : ℕ
@@ -126,9 +126,9 @@ module _ (s : State) (b : Book) (o : Order) (maps : MATCH_MAPS ≤ length s.maps
   below : PRICE_BITS < length e.maps
   below = omega (arith, length-maps s (Insert OPEN_ORDERS o.name order), maps)
 
-  raised-level : Changed e level (depth b level + o.left) (has_depth (with_order b o)) level 3 12 3 (played (raise_level level o.left) e) (made (raise_level level o.left) e)
+  raised-level : Changed e level (depth b level + o.left) (has_depth (with_order b o)) level 3 9 3 (played (raise_level level o.left) e) (made (raise_level level o.left) e)
   raised-level =
-      subst (λ n. Changed e n (depth b level + o.left) (has_depth (with_order b o)) level 3 12 3 (played (raise_level n o.left) e) (made (raise_level n o.left) e)) i-level
+      subst (λ n. Changed e n (depth b level + o.left) (has_depth (with_order b o)) level 3 9 3 (played (raise_level n o.left) e) (made (raise_level n o.left) e)) i-level
       (raise-changed (has_depth (with_order b o)) (shows-same (other PRICE_BITS (λ f. omega arith)) (λ _ _. refl) prices) below o.side i i-low
       (depths-agree b (with_order b o) o.side i i-low (λ at apart. depth-other b o at (λ f. apart (f ∙ sym i-level)))) level (depth b level) o.left
       (subst (λ n. fin.get (map_at e DEPTHS) n ≡ unless_0 (depth b level)) (sym i-level) (ap (λ m. fin.get m level) (other DEPTHS (λ f. omega arith)) ∙ shows.depths level))

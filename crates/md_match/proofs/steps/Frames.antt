@@ -1,5 +1,5 @@
 -- What scripts leave as it was.
-use Rattle.std.proofs.Common.{◌≡◌, ◌≢◌, ℕ, ◌+◌, ◌-◌, ◌^◌, ◌==◌, min, Bool, cond, List, [], length, refl, sym, ap, ◌∙◌, Option, Some, None, arith}
+use Rattle.std.proofs.Common.{◌≡◌, ◌≢◌, ℕ, ◌-◌, ◌==◌, min, Bool, cond, List, [], length, refl, sym, ap, ◌∙◌, Option, Some, None, arith}
 use Rattle.std.specs.FinMap as fin
 use Rattle.std.specs.Prelude.{slice_index_or, is_none}
 use Rattle.std.proofs.lemmas.Bool.{cond_both}
@@ -19,8 +19,8 @@ use Rattle.md_book.specs.declared.fronts.Look.TheVariants.{Nobody, Dead, Live}
 use Rattle.md_book.specs.declared.maps.TheConstants.{OPEN_ORDERS, DEPTHS, BOUGHT, SOLD}
 use Rattle.md_book.specs.Book.{Book}
 use Rattle.md_book.specs.Stands.{left_in, account_in, Shows}
-use Rattle.md_book.specs.Scripts.{value_or_0, raise}
-use Rattle.md_book.specs.Filling.{resting_sums, taker_sums, put_back, take_from, look_front}
+use Rattle.md_book.specs.Scripts.{raise}
+use Rattle.md_book.specs.Filling.{resting_sums, taker_sums, take_out, take_from, look_front}
 use Rattle.md_book.proofs.books.Reflects.{Reflects}
 use Rattle.md_match.specs.declared.maps.TheConstants.{PRICE_BITS}
 use Rattle.md_match.proofs.prices.Bits.{Beside}
@@ -84,7 +84,7 @@ spares-cond b p q f g = cond_both b p q Spares (λ _. f) (λ _. g)
 
 -- a sum grows in another map
 pub spares-raise : (m k by : ℕ) → m ≢ PRICE_BITS → Spares (raise m k by)
-spares-raise m k by apart = (apart, λ r. spares-cond (min (value_or_0 r + by) (2 ^ 64 - 1) == 0) (done tt) (call (Insert m k (min (value_or_0 r + by) (2 ^ 64 - 1))) (λ _. done tt)) tt (apart, λ _. tt))
+spares-raise m k by apart = (tt, λ _. (apart, λ _. tt))
 
 sums-apart : (side : Side) → (resting_sums side ≢ PRICE_BITS) × (taker_sums side ≢ PRICE_BITS)
 sums-apart Buy = (λ e. omega arith, λ e. omega arith)
@@ -94,16 +94,15 @@ sums-apart Sell = (λ e. omega arith, λ e. omega arith)
 pub spares-taker : (side : Side) (account taken : ℕ) → Spares (raise (taker_sums side) account taken)
 spares-taker side account taken = spares-raise (taker_sums side) account taken (sums-apart side).1
 
-spares-put_back : (level name order taken : ℕ) → Spares (put_back level name order taken)
-spares-put_back level name order taken =
-    spares-cond (left_in order == taken) (call (Dequeue level) (λ _. done tt)) (call (Insert OPEN_ORDERS name (order - taken)) (λ _. done tt)) (tt, λ _. tt) ((λ e. omega arith), λ _. tt)
+spares-take_out : (level name order taken : ℕ) → Spares (take_out level name order taken)
+spares-take_out level name order taken =
+    spares-cond (left_in order == taken) (call (Remove OPEN_ORDERS name) (λ _. call (Dequeue level) (λ _. done tt))) (call (Put OPEN_ORDERS name (order - taken)) (λ _. done tt))
+    ((λ e. omega arith), λ _. (tt, λ _. tt)) ((λ e. omega arith), λ _. tt)
 
 spares-take_from : (side : Side) (level name order taken : ℕ) → Spares (take_from side level name order taken)
-spares-take_from side level name order taken = (
-  (λ e. omega arith),
-  λ _. spares-bind (put_back level name order taken) (λ _. bind (raise (resting_sums side) (account_in order) taken) (λ _. done (Live (record { name = name; taken = taken })))) (spares-put_back level name order taken)
-      (λ _. spares-bind (raise (resting_sums side) (account_in order) taken) (λ _. done (Live (record { name = name; taken = taken }))) (spares-raise (resting_sums side) (account_in order) taken (sums-apart side).0) (λ _. tt)),
-)
+spares-take_from side level name order taken =
+    spares-bind (take_out level name order taken) (λ _. bind (raise (resting_sums side) (account_in order) taken) (λ _. done (Live (record { name = name; taken = taken })))) (spares-take_out level name order taken)
+    (λ _. spares-bind (raise (resting_sums side) (account_in order) taken) (λ _. done (Live (record { name = name; taken = taken }))) (spares-raise (resting_sums side) (account_in order) taken (sums-apart side).0) (λ _. tt))
 
 -- a look at a level's front place changes no price bits
 pub spares-look : (side : Side) (level rest : ℕ) → Spares (look_front side level rest)

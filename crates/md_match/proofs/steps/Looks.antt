@@ -60,7 +60,7 @@ pub record Looks (from : Side) (price taker : ℕ) (takers : ℕ → ℕ) (taken
   pub parts : map (at_price price) l.parts ≡ listed part
   pub left : l.rest ≡ rest - took part
   pub within : took part ≤ rest
-  pub costs : Costs (level_of from price) acts 3 13 3
+  pub costs : Costs (level_of from price) acts 5 13 3
 
 -- levels of different sides or prices differ
 level-apart : (z from : Side) (j i : ℕ) → j < MAX_PRICE → i < MAX_PRICE → (z ≡ from → j ≢ i) → level_of z (j + 1) ≢ level_of from (i + 1)
@@ -123,7 +123,7 @@ module _ (from : Side) (price : ℕ) (priced : IsPrice price) (taker : ℕ) (in_
     parts = refl;
     left = omega arith;
     within = omega arith;
-    costs = costs-more (costs-append is.costs (costs-none level)) 3 13 3 (omega arith) (omega arith) (omega arith);
+    costs = costs-more (costs-append is.costs (costs-none level)) 5 13 3 (omega arith) (omega arith) (omega arith);
   })
 
   after-dead : (o : Order) (met : Look) (acts : List Act) → IsDead b level from (depth b) takers o t met acts → After (ended (pass b level) rest) t met acts
@@ -132,7 +132,7 @@ module _ (from : Side) (price : ℕ) (priced : IsPrice price) (taker : ℕ) (in_
     parts = refl;
     left = omega arith;
     within = omega arith;
-    costs = costs-more (costs-append is.costs (costs-none level)) 3 13 3 (omega arith) (omega arith) (omega arith);
+    costs = costs-more (costs-append is.costs (costs-none level)) 5 13 3 (omega arith) (omega arith) (omega arith);
   })
 
   module _ (o : Order) (front : front_order b level ≡ Some o) (live : 0 < o.left) where
@@ -171,7 +171,7 @@ module _ (from : Side) (price : ℕ) (priced : IsPrice price) (taker : ℕ) (in_
     lag-live : (account : ℕ) → taker_sum from now account ≡ takers account + at_account taker account (taken + m)
     lag-live account = omega (arith, lags.takers_lag account, amid.lag account, sum-account taker account taken m)
 
-    after-live : (met : Look) (acts : List Act) → IsLive b level from (depth b) takers taker o m 3 (5 + unless (o.left == m)) (1 + unless (o.left == m)) t met acts → After (first_part o m (ended now (rest - m))) t met acts
+    after-live : (met : Look) (acts : List Act) → IsLive b level from (depth b) takers taker o m 2 (5 + unless (o.left == m)) (1 + unless (o.left == m)) t met acts → After (first_part o m (ended now (rest - m))) t met acts
     after-live met acts is =
         let stood = is.reflects.has_depths level in
         let changed = lower-changed (has_depth now) (shows-same bits-still (λ _ _. refl) amid.prices) (omega (arith, maps-still)) from i i-low
@@ -179,13 +179,13 @@ module _ (from : Side) (price : ℕ) (priced : IsPrice price) (taker : ℕ) (in_
         (omega (arith, fell, live, some)) (deep-at b from i i-low ∙ ap (λ n. nat_lt 0 (depth b n)) i-level ∙ lt-ltb 0 (depth b level) (omega (arith, fell, live, some)))
         (deep-at now from i i-low ∙ ap (λ n. nat_lt 0 (depth now n)) i-level ∙ ap (nat_lt 0) (left-is fell)) in
         subst (λ x. After (first_part o m (ended now (rest - m))) t x acts) (sym is.look_is)
-        (finish acts is (subst (λ n. Changed t n (depth b level - m) (has_depth now) level 0 7 1 (played (lower_level n m) t) (made (lower_level n m) t)) i-level changed))
+        (finish acts is (subst (λ n. Changed t n (depth b level - m) (has_depth now) level 3 7 1 (played (lower_level n m) t) (made (lower_level n m) t)) i-level changed))
       where
         left-is : depth b level ≡ depth now level + m → depth now level ≡ depth b level - m
         left-is e = omega (arith, e)
 
-        finish : (acts : List Act) → IsLive b level from (depth b) takers taker o m 3 (5 + unless (o.left == m)) (1 + unless (o.left == m)) t met acts
-            → Changed t level (depth b level - m) (has_depth now) level 0 7 1 (played (lower_level level m) t) (made (lower_level level m) t)
+        finish : (acts : List Act) → IsLive b level from (depth b) takers taker o m 2 (5 + unless (o.left == m)) (1 + unless (o.left == m)) t met acts
+            → Changed t level (depth b level - m) (has_depth now) level 3 7 1 (played (lower_level level m) t) (made (lower_level level m) t)
             → After (first_part o m (ended now (rest - m))) t (Live (record { name = o.name; taken = m })) acts
         finish acts is changed = ends-bind (lower_level level m) (λ _. done (Some (at_price price (record { name = o.name; taken = m })))) t (λ u part xs. Looks from price taker takers taken rest (first_part o m (ended now (rest - m))) u part (acts ++ xs)) (record {
           amid = record {
@@ -197,7 +197,7 @@ module _ (from : Side) (price : ℕ) (priced : IsPrice price) (taker : ℕ) (in_
           parts = refl;
           left = refl;
           within = omega arith;
-          costs = costs-more (costs-append is.costs (costs-append changed.costs (costs-none level))) 3 13 3 (omega arith) (omega (arith, unless-low (o.left == m))) (omega (arith, unless-low (o.left == m)));
+          costs = costs-more (costs-append is.costs (costs-append changed.costs (costs-none level))) 5 13 3 (omega arith) (omega (arith, unless-low (o.left == m))) (omega (arith, unless-low (o.left == m)));
         })
 
   -- what a look comes to, by the order at the front
@@ -213,4 +213,4 @@ module _ (from : Side) (price : ℕ) (priced : IsPrice price) (taker : ℕ) (in_
   pub looks-at : Looks from price taker takers taken rest (look level taker 1 b rest) (played (take_at from price rest) s) (outcome (take_at from price rest) s) (made (take_at from price rest) s)
   looks-at = ends-bind (look_front from level rest) (take_off level price) s (Looks from price taker takers taken rest (look level taker 1 b rest))
       (subst (λ l. After l t (outcome (look_front from level rest) s) (made (look_front from level rest) s)) (sym (look-one level taker b rest some))
-      (by-front (front_order b level) refl (outcome (look_front from level rest) s) (made (look_front from level rest) s) (front-looks from price priced taker in_range amid.reflects below rest)))
+      (by-front (front_order b level) refl (outcome (look_front from level rest) s) (made (look_front from level rest) s) (front-looks from price priced taker in_range amid.reflects below rest some)))

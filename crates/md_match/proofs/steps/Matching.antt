@@ -120,7 +120,7 @@ module _ (s : State) (b : Book) (room : HasMapsAndQueues s) (stands : StandsForM
         let p = bind (cond clear (placing (rest_of f.rest)) (done 0)) replying in
         IsStep may (cond clear (placed_step l (rest_of quantity)) (dropped_step l)) (played p u) (outcome p u) (acts ++ (made (book_taker from account taken) t ++ made p u))
 
-    all-few : {xs : List Act} → Costs q xs 4 16 5 → AreFew match_bounds (acts ++ (made (book_taker from account taken) t ++ xs))
+    all-few : {xs : List Act} → Costs q xs 4 13 5 → AreFew match_bounds (acts ++ (made (book_taker from account taken) t ++ xs))
     all-few costs =
         let all = within-append sweeps.few (within-costs (costs-append booked.costs costs)) in
         record { reads = omega (arith, all.reads_few); writes = omega (arith, all.writes_few); nodes = omega (arith, all.nodes_few) }
@@ -130,7 +130,7 @@ module _ (s : State) (b : Book) (room : HasMapsAndQueues s) (stands : StandsForM
       replied = replied 0 l.rest (omega (arith, sweeps.rest));
       shows = λ _. booked.shows;
       prices = booked.prices;
-      few = all-few (costs-more (costs-none q) 4 16 5 (omega arith) (omega arith) (omega arith));
+      few = all-few (costs-more (costs-none q) 4 13 5 (omega arith) (omega arith) (omega arith));
     }
 
     placed : f.clear ≡ true → Ends true
@@ -143,7 +143,7 @@ module _ (s : State) (b : Book) (room : HasMapsAndQueues s) (stands : StandsForM
           replied = let all = now.all in replied (outcome (placing (rest_of f.rest)) u) 0 (omega (arith, all)) ∙ ap (λ n. matched l.parts n 0) (all ∙ sweeps.rest);
           shows = λ allowed. subst (λ n. Shows (played (placing (rest_of f.rest)) u) (with_order l.book (rest_of n))) sweeps.rest (now.is_placed.shows (still-may allowed));
           prices = subst (λ n. ShowsPrices (played (placing (rest_of f.rest)) u) (has_depth (with_order l.book (rest_of n)))) sweeps.rest now.is_placed.prices;
-          few = all-few (subst (λ xs. Costs q xs 4 16 5) (sym (append-nil (made (placing (rest_of f.rest)) u))) now.is_placed.costs);
+          few = all-few (subst (λ xs. Costs q xs 4 13 5) (sym (append-nil (made (placing (rest_of f.rest)) u))) now.is_placed.costs);
         })
 
     ends : Ends f.clear

@@ -19,7 +19,7 @@ use Rattle.md_match.specs.Sweeping.{find_best, with_taken, take_at, go_on, sweep
 use Rattle.md_match.proofs.scripts.Sweeping.{at_best, sweep-some, sweep-none}
 use Rattle.md_match.proofs.sweeps.BestPrices.{best-within}
 use Rattle.md_match.proofs.prices.Best.{Finds, finds-best}
-use Rattle.md_match.proofs.steps.Few.{Within, within-costs, within-more, within-append}
+use Rattle.md_match.proofs.steps.Few.{Within, within-costs, within-quiet, within-more, within-append}
 use Rattle.md_match.proofs.steps.Looks.{Amid, listed, took, Looks, looks-at}
 
 abbrev no_part : At
@@ -64,7 +64,7 @@ module _ (side : Side) (limit : ℕ) (is : IsPrice limit) (account : ℕ) (in_ra
     pub so_far : SoFar t l.book f (before ++ l.parts)
     pub rest : f.rest ≡ l.rest
     pub clear : f.clear ≡ is_placed l side limit
-    pub few : Within acts (7 * looks + 4) (18 * looks + 5) (3 * looks)
+    pub few : Within acts (8 * looks + 2) (18 * looks + 2) (3 * looks)
 
   abbrev SweepsAs : ℕ → State → List At → Script Sweep → Swept → Type 0
   SweepsAs looks s before p l = Sweeps before looks l (played p s) (outcome p s) (made p s)
@@ -76,7 +76,7 @@ module _ (side : Side) (limit : ℕ) (is : IsPrice limit) (account : ℕ) (in_ra
 
   -- the sweep ends with the book as it is
   ends : (looks : ℕ) (s : State) (b : Book) (f g : Sweep) (before : List At) (acts : List Act) → SoFar s b f before → g.rest ≡ f.rest → g.count ≡ f.count → g.parts ≡ f.parts → g.clear ≡ is_placed (swept b f.rest) side limit
-      → Within acts (7 * looks + 4) (18 * looks + 5) (3 * looks) → Sweeps before looks (swept b f.rest) s g acts
+      → Within acts (8 * looks + 2) (18 * looks + 2) (3 * looks) → Sweeps before looks (swept b f.rest) s g acts
   ends looks s b f g before acts far rest count parts clear few = record {
     so_far = subst (SoFar s b g) (sym (append-nil before)) (record { amid = far.amid; remains = omega (arith, far.remains, rest); count = count ∙ far.count; parts = parts ∙ far.parts });
     rest = rest;
@@ -84,7 +84,7 @@ module _ (side : Side) (limit : ℕ) (is : IsPrice limit) (account : ℕ) (in_ra
     few = few;
   }
 
-  nothing-few : (looks : ℕ) → Within [] (7 * looks + 4) (18 * looks + 5) (3 * looks)
+  nothing-few : (looks : ℕ) → Within [] (8 * looks + 2) (18 * looks + 2) (3 * looks)
   nothing-few looks = record { reads_few = omega arith; writes_few = omega arith; nodes_few = omega arith }
 
   module _ (s : State) (b : Book) (f : Sweep) (before : List At) (far : SoFar s b f before) (unclear : f.clear ≡ false) (some : f.rest ≢ 0) where
@@ -94,8 +94,8 @@ module _ (side : Side) (limit : ℕ) (is : IsPrice limit) (account : ℕ) (in_ra
     found : (q : ℕ) → Finds b limit is s far.amid.prices side q (played search s) (outcome search s) (made search s)
     found q = finds-best b limit is s far.amid.prices side q
 
-    search-few : (looks : ℕ) → Within (made search s ++ []) (7 * looks + 4) (18 * looks + 5) (3 * looks)
-    search-few looks = subst (λ xs. Within xs (7 * looks + 4) (18 * looks + 5) (3 * looks)) (sym (append-nil (made search s))) (within-more (within-costs (found 0).costs) (7 * looks + 4) (18 * looks + 5) (3 * looks) (omega arith) (omega arith) (omega arith))
+    search-few : (looks : ℕ) → Within (made search s ++ []) (8 * looks + 2) (18 * looks + 2) (3 * looks)
+    search-few looks = subst (λ xs. Within xs (8 * looks + 2) (18 * looks + 2) (3 * looks)) (sym (append-nil (made search s))) (within-more (within-quiet (λ q. (found q).costs)) (8 * looks + 2) (18 * looks + 2) (3 * looks) (omega arith) (omega arith) (omega arith))
 
     -- what follows a search, which found this
     abbrev Follows : ℕ → Swept → State → Option ℕ → Type 0
@@ -167,8 +167,8 @@ module _ (side : Side) (limit : ℕ) (is : IsPrice limit) (account : ℕ) (in_ra
             so_far = subst (SoFar (played (then part) t) (l lk.book lk.rest).book (outcome (then part) t)) parts done_it.so_far;
             rest = done_it.rest;
             clear = done_it.clear;
-            few = subst (λ xs. Within xs (7 * suc looks + 4) (18 * suc looks + 5) (3 * suc looks)) (append_assoc (made search s) acts (made (then part) t))
-                (within-more (within-append (within-costs (costs-append (found level).costs is.costs)) done_it.few) (7 * suc looks + 4) (18 * suc looks + 5) (3 * suc looks) (omega arith) (omega arith) (omega arith));
+            few = subst (λ xs. Within xs (8 * suc looks + 2) (18 * suc looks + 2) (3 * suc looks)) (append_assoc (made search s) acts (made (then part) t))
+                (within-more (within-append (within-costs (costs-append (found level).costs is.costs)) done_it.few) (8 * suc looks + 2) (18 * suc looks + 2) (3 * suc looks) (omega arith) (omega arith) (omega arith));
           }
 
       goes : Follows (suc looks) (look_then price (look level account 1 b f.rest) l) s (Some price)
