@@ -13,6 +13,7 @@ ghost use Rattle.md_rule.specs.Views.{IsOf};
 ghost use Rattle.example_stalls.specs.Inserting.{CarriesOut, HasInserted, HasNoInstall, Inserts, IsTried};
 ghost use Rattle.example_stalls.specs.Inserting.{Loses, MakesCommit, MakesReady, MayInsert, Puts};
 ghost use Rattle.example_stalls.specs.Inserting.{inserted};
+ghost use Rattle.example_stalls.specs.Stalled.{TakesTry};
 
 use crate::stalling::{begin, put, store_slot};
 use example_cell::CellTheory;
@@ -42,6 +43,7 @@ fn operate(
     ensures idle { IfNone result (pass.new.view.hand ≡ None) }
     ensures none { IfNone result (HasNoInstall field.now.origin.shape (word_of found) value
         pass.old pass.new) }
+    ensures shares { TakesTry pass.old pass.new.shares }
 {
     let Some(desc) = begin(field, pass) else {
         return None;
@@ -77,7 +79,7 @@ fn first_status(status: Status) -> u64
 fn enter(field: &Field<CellTheory>, pass: &mut Pass<CellTheory>, desc: u32) -> bool
     requires field { IsOf pass.old field.now }
     requires inserted { HasInserted field.now.origin.shape desc pass.old.view }
-    ensures field { IsOf pass.new field.now }
+    ensures same { pass.new ≡ record pass.old { view = pass.new.view } }
     ensures exists { desc < desc_count field.now.origin.shape }
     ensures since { result ≡ true → SinceStatus field.now.origin.shape pass.new.view desc
         (status_word InProg 0 0) }
@@ -96,7 +98,7 @@ fn commit(field: &Field<CellTheory>, pass: &mut Pass<CellTheory>, desc: u32) -> 
     requires field { IsOf pass.old field.now }
     requires exists { desc < desc_count field.now.origin.shape }
     requires since { SinceStatus field.now.origin.shape pass.old.view desc (status_word InProg 0 0) }
-    ensures field { IsOf pass.new field.now }
+    ensures same { pass.new ≡ record pass.old { view = pass.new.view } }
     ensures commits { MakesCommit field.now.origin.shape desc result pass.old.view pass.new.view }
 {
     pass.commit(field, desc, first_status(Status::InProg))
@@ -133,6 +135,7 @@ pub fn insert(
         true pass.old.view pass.new.view }
     ensures lost { IsTried found value → result ≡ false → Loses field.now.origin.shape
         (word_of found) value decides pass.old pass.new }
+    ensures shares { IsTried found value → TakesTry pass.old pass.new.shares }
 {
     if found.value != 0 || value == u32::MAX {
         return false;
