@@ -6,3 +6,4 @@ mod Inserted
 mod Entering
 mod Statuses
 mod Puts
+mod Shares

@@ -1,5 +1,5 @@
 -- What a stalled transaction did.
-use Rattle.std.specs.Prelude.{◌≡◌, ◌≢◌, ◌<◌, ◌++◌, ◌∷◌, ℕ, Bool, true, false, [], Some}
+use Rattle.std.specs.Prelude.{◌≡◌, ◌≢◌, ◌+◌, ◌<◌, ◌++◌, ◌∷◌, ◌⊎◌, ℕ, Bool, true, false, List, [], Some}
 use Rattle.std.specs.List.{Contains}
 use Rattle.md_words.specs.declared.shape.Shape.{Shape}
 use Rattle.md_words.specs.Content.{value_of}
@@ -18,12 +18,28 @@ use Rattle.md_machine.specs.events.Start.{WonInstall}
 use Rattle.example_cell.specs.CellMeaning.{cell_word}
 use Rattle.md_rule.specs.Kept.{IsNew, MetNoLater}
 use Rattle.md_rule_lanes.specs.Shares.{share_at}
+use Rattle.md_rule_lanes.specs.declared.shares.Share.{Share}
 use Rattle.md_rule.specs.Views.{PassState}
-use Rattle.md_arena.specs.Left.{HasTryLeft, IsLowest}
+use Rattle.md_arena.specs.Left.{HasTryLeft, IsLowest, NoLane}
 
 -- the lowest lane with an attempt left, if there is one, has begun one before
 abbrev pub HasNoFirst : PassState → Type 0
 HasNoFirst p = (lane : ℕ) → IsLowest p (HasTryLeft p) lane → (share_at p.shares lane).tries_taken ≢ 0
+
+-- the share of a lane has so many attempts more, and as many nodes, and the share of every other lane stays
+pub record OnlyShare (lane more : ℕ) (before after : List Share) : Type 0 where
+  pub nodes : (share_at after lane).nodes_taken ≡ (share_at before lane).nodes_taken
+  pub tries : (share_at after lane).tries_taken ≡ (share_at before lane).tries_taken + more
+  pub others : (other : ℕ) → other ≢ lane → share_at after other ≡ share_at before other
+
+-- the lowest lane with an attempt left has begun one more, by these shares
+pub record TakesTryOf (p : PassState) (lane : ℕ) (shares : List Share) : Type 0 where
+  pub lowest : IsLowest p (HasTryLeft p) lane
+  pub only : OnlyShare lane 1 p.shares shares
+
+-- so it is, or no lane has one left, and all shares stay
+abbrev pub TakesTry : PassState → List Share → Type 0
+TakesTry p shares = ((lane : ℕ) × TakesTryOf p lane shares) ⊎ (NoLane p (HasTryLeft p) × (shares ≡ p.shares))
 
 -- an attempt of an own descriptor was taken, the first one: it is new, and no status of a later one was met
 pub record TakesFirst (p : PassState) (desc : ℕ) (q : PassState) : Type 0 where

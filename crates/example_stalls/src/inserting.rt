@@ -14,6 +14,7 @@ ghost use Rattle.example_stalls.specs.Inserting.{CarriesOut, HasInserted, HasNoI
 ghost use Rattle.example_stalls.specs.Inserting.{IsTried};
 ghost use Rattle.example_stalls.specs.Inserting.{Loses, MakesCommit, MakesReady, MayInsert, Puts};
 ghost use Rattle.example_stalls.specs.Inserting.{inserted};
+ghost use Rattle.example_stalls.specs.Stalled.{TakesTry};
 
 use crate::stalling::{begin, put, store_slot};
 use example_cell::CellTheory;
@@ -43,6 +44,7 @@ fn operate(
     ensures idle { IfNone result (pass.new.view.hand ≡ None) }
     ensures none { IfNone result (HasNoInstall field.now.origin.shape (word_of found) value
         pass.old pass.new) }
+    ensures shares { TakesTry pass.old pass.new.shares }
 {
     let Some(desc) = begin(field, pass) else {
         return None;
@@ -78,7 +80,7 @@ fn first_status(status: Status) -> u64
 fn enter(field: &Field<CellTheory>, pass: &mut Pass<CellTheory>, desc: u32) -> bool
     requires field { IsOf pass.old field.now }
     requires inserted { HasInserted field.now.origin.shape desc pass.old.view }
-    ensures field { IsOf pass.new field.now }
+    ensures same { pass.new ≡ record pass.old { view = pass.new.view } }
     ensures exists { desc < desc_count field.now.origin.shape }
     ensures since { result ≡ true → SinceStatus field.now.origin.shape pass.new.view desc
         (status_word InProg 0 0) }
@@ -98,7 +100,7 @@ fn commit(field: &Field<CellTheory>, pass: &mut Pass<CellTheory>, desc: u32) -> 
     requires exists { desc < desc_count field.now.origin.shape }
     requires since { SinceStatus field.now.origin.shape pass.old.view desc
         (status_word InProg 0 0) }
-    ensures field { IsOf pass.new field.now }
+    ensures same { pass.new ≡ record pass.old { view = pass.new.view } }
     ensures commits { MakesCommit field.now.origin.shape desc result pass.old.view pass.new.view }
 {
     pass.commit(field, desc, first_status(Status::InProg))
@@ -135,6 +137,7 @@ pub fn insert(
         true pass.old.view pass.new.view }
     ensures lost { IsTried found value → result ≡ false → Loses field.now.origin.shape
         (word_of found) value decides pass.old pass.new }
+    ensures shares { IsTried found value → TakesTry pass.old pass.new.shares }
 {
     if found.value != 0 || value == u32::MAX {
         return false;

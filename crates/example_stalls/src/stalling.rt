@@ -5,7 +5,7 @@ ghost use Rattle.md_words.specs.Content.{is_even, word_of};
 ghost use Rattle.md_machine.specs.declared.step.TheConstants.{LAST_COUNT};
 ghost use Rattle.md_rule.specs.Views.{IsOf};
 ghost use Rattle.example_stalls.specs.Stalled.{AddsChange, Begins, HasFirst, HasNoFirst};
-ghost use Rattle.example_stalls.specs.Stalled.{HoldsFirstSlot};
+ghost use Rattle.example_stalls.specs.Stalled.{HoldsFirstSlot, OnlyShare, TakesTry, TakesTryOf};
 ghost use Rattle.example_stalls.specs.Stalled.{PutsIn, Stalls, StoresSlot, TakesFirst};
 
 use example_cell::CellTheory;
@@ -22,7 +22,8 @@ use md_words::{Content, Spot};
 ///
 /// The answer says whether the install won, that is, whether the word held `found`. It is `None`,
 /// without a step, only if the lowest lane that has an attempt left has begun one before, or if no
-/// lane has one left. Otherwise it takes six steps, whatever others do.
+/// lane has one left. Otherwise it takes six steps, whatever others do. That lane has begun one more
+/// attempt afterwards, also after `None`, and the share of every other lane stays.
 pub fn stall(
     field: &Field<CellTheory>,
     pass: &mut Pass<CellTheory>,
@@ -38,6 +39,7 @@ pub fn stall(
     ensures some { IfSome result (λ won. Stalls field.now.origin.shape (word_of found) value won
         pass.old.view pass.new.view) }
     ensures none { IfNone result (HasNoFirst pass.old × (pass.new.view ≡ pass.old.view)) }
+    ensures shares { TakesTry pass.old pass.new.shares }
 {
     let Some(desc) = begin(field, pass) else {
         return None;
@@ -56,6 +58,8 @@ pub(crate) fn begin(field: &Field<CellTheory>, pass: &mut Pass<CellTheory>) -> O
     ensures some { IfSome result (λ desc. Begins field.now.origin.shape desc pass.old.view
         pass.new.view) }
     ensures none { IfNone result (HasNoFirst pass.old × (pass.new.view ≡ pass.old.view)) }
+    ensures takes { IfSome result (λ desc. TakesTryOf pass.old desc pass.new.shares) }
+    ensures shares { IfNone result (TakesTry pass.old pass.new.shares) }
 {
     let Some(desc) = first_attempt(pass) else {
         return None;
@@ -69,6 +73,8 @@ fn first_attempt(pass: &mut Pass<CellTheory>) -> Option<u32>
     ensures same { pass.new ≡ record pass.old { shares = pass.new.shares } }
     ensures some { IfSome result (λ desc. TakesFirst pass.old desc pass.new) }
     ensures none { IfNone result (HasNoFirst pass.old) }
+    ensures takes { IfSome result (λ desc. TakesTryOf pass.old desc pass.new.shares) }
+    ensures shares { IfNone result (TakesTry pass.old pass.new.shares) }
 {
     kept(pass);
     let Ok(desc) = take_descriptor(pass) else {
@@ -115,6 +121,7 @@ pub(crate) fn put(
     requires even { is_even found.count ≡ true }
     requires room { found.count ≤ LAST_COUNT }
     ensures field { IsOf pass.new field.now }
+    ensures shares { OnlyShare desc 0 pass.old.shares pass.new.shares }
     ensures puts { PutsIn field.now.origin.shape desc (word_of found) result pass.old.view
         pass.new.view }
     ensures hand { AddsChange field.now.origin.shape desc (word_of found) result pass.old.view

@@ -19,7 +19,7 @@ use Rattle.md_help.specs.declared.settling.End.{End}
 use Rattle.md_help.specs.declared.settling.End.TheVariants.{Committed, Aborted, Gone}
 use Rattle.md_help.specs.After.{IsAfter}
 use Rattle.md_help.specs.Reads.{LoadsNoStatus, Validated}
-use Rattle.md_help.specs.Settles.{Decides, EndIs, Ends, FindsMoved, IsDecidedAs, IsFound, IsLost, IsMet, Settled, SettledNewer}
+use Rattle.md_help.specs.Settles.{Decides, EndIs, Ends, FindsMoved, IsDecidedAs, IsFound, IsLost, IsMet, Settled, SettledNewer, StepsByStatus}
 use Rattle.md_help.proofs.Reading.{finds_left, some_right}
 use Rattle.md_help.proofs.Steps.{Made, both_after, none_after}
 
@@ -56,11 +56,20 @@ module _ (shape : Shape) (desc : ℕ) where
     none : is_store kind ≡ false
     none = ⊎_elim (ap is_store) (ap is_store) decides
 
-    settled_by : (end : End) → Ends shape desc first (v.steps ++ m.step ∷ []) end → Settled shape desc first more end p r
-    settled_by end ends = record {
+    abbrev ByStatus : Type 0
+    ByStatus = StepsByStatus first (status_of first) (v.steps ++ m.step ∷ [])
+
+    -- one step after those of the reads, where the status is in progress
+    pub by_reads : status_of first ≡ InProg → ByStatus
+    by_reads prog = subst (λ s. StepsByStatus first s (v.steps ++ m.step ∷ [])) (sym prog)
+        (let a = v.few in let l = length-append v.steps (m.step ∷ []) in (omega (arith, l), omega (arith, a, l, fits)))
+
+    settled_by : ByStatus → (end : End) → Ends shape desc first (v.steps ++ m.step ∷ []) end → Settled shape desc first more end p r
+    settled_by by end ends = record {
       steps = v.steps ++ m.step ∷ [];
       goes = both_after shape v.steps (m.step ∷ []) p q r v.goes m.goes;
       few = (first, refl, inl refl, (let a = v.few in let l = length-append v.steps (m.step ∷ []) in omega (arith, a, l, fits, some)));
+      by_status = by;
       changes = All-append (Decides shape desc) v.steps (m.step ∷ [])
           (All-weaker (LoadsNoStatus shape) (Decides shape desc) (λ x l. inl l) v.steps v.still)
           (All-cons (Decides shape desc) m.step [] (inr (m.there, ⊎_elim (λ e. inl (m.is_kind ∙ e)) (λ e. inr (m.is_kind ∙ e)) decides)) (All-nil (Decides shape desc)));
@@ -98,19 +107,24 @@ module _ (shape : Shape) (desc : ℕ) where
     lost_ends Aborted e = (found_decided IsAborted e.0 e.1, (held, e.0, inl (inr found_it, inr e.1)))
     lost_ends Gone e = (held, e, found_it)
 
-    pub settled_lost : (end : End) → EndIs first held end → Settled shape desc first more end p r
-    settled_lost end e = settled_by end (lost_ends end e)
+    pub settled_lost : ByStatus → (end : End) → EndIs first held end → Settled shape desc first more end p r
+    settled_lost by end e = settled_by by end (lost_ends end e)
 
-    pub settled_committed : held ≡ first → left ≡ decided_word IsCommitted first → Settled shape desc first more Committed p r
-    settled_committed won is = settled_by Committed (left_decided IsCommitted won is)
+    pub settled_committed : ByStatus → held ≡ first → left ≡ decided_word IsCommitted first → Settled shape desc first more Committed p r
+    settled_committed by won is = settled_by by Committed (left_decided IsCommitted won is)
 
-    pub settled_aborted : held ≡ first → left ≡ decided_word IsAborted first → (status_of first ≡ InPrep) ⊎ FindsMoved shape desc first first (v.steps ++ m.step ∷ []) → Settled shape desc first more Aborted p r
-    settled_aborted won is why = settled_by Aborted (left_decided IsAborted won is, (first, refl, ⊎_elim (λ e. inl (inl refl, inl e)) inr why))
+    pub settled_aborted : ByStatus → held ≡ first → left ≡ decided_word IsAborted first → (status_of first ≡ InPrep) ⊎ FindsMoved shape desc first first (v.steps ++ m.step ∷ []) → Settled shape desc first more Aborted p r
+    settled_aborted by won is why = settled_by by Aborted (left_decided IsAborted won is, (first, refl, ⊎_elim (λ e. inl (inl refl, inl e)) inr why))
 
   already : (first : ℕ) (end : End) (p : PassView) → EndIs first first end → Ends shape desc first [] end
   already first Committed p e = record { held = first; serial = refl; decided = e.1; met = inl refl; same = All-nil (Same first) }
   already first Aborted p e = (record { held = first; serial = refl; decided = e.1; met = inl refl; same = All-nil (Same first) }, (first, refl, inl (inl refl, inr e.1)))
   already first Gone p e = absurd (e refl)
+
+  none_needed : (first : ℕ) (end : End) → EndIs first first end → StepsByStatus first (status_of first) []
+  none_needed first Committed e = subst (λ s. StepsByStatus first s []) (sym e.1) refl
+  none_needed first Aborted e = subst (λ s. StepsByStatus first s []) (sym e.1) refl
+  none_needed first Gone e = absurd (e refl)
 
   -- nothing was to be done
   pub settled_already : (first : ℕ) (end : End) (p : PassView) → EndIs first first end → Settled shape desc first 1 end p p
@@ -118,6 +132,7 @@ module _ (shape : Shape) (desc : ℕ) where
     steps = [];
     goes = none_after shape p;
     few = (first, refl, inl refl, omega arith);
+    by_status = none_needed first end e;
     changes = All-nil (Decides shape desc);
     ends = already first end p e;
   }
@@ -128,12 +143,17 @@ module _ (shape : Shape) (desc : ℕ) where
     steps = s.steps;
     goes = s.goes;
     few = (s.few.0, s.few.1, s.few.2, (let h = s.few.3 in omega (arith, h)));
+    by_status = s.by_status;
     changes = s.changes;
     ends = s.ends;
   }
 
   -- a lost abort came first, which found a later status
-  module _ (old new : ℕ) (p q r : PassView) (m : Made shape Abort word new new p q) where
+  module _ (old new : ℕ) (p q r : PassView) (m : Made shape Abort word new new p q) (unready : status_of old ≡ InPrep) (lost : new ≢ old) where
+    by_abort : (steps : List Step) → StepsByStatus old (status_of old) (m.step ∷ steps)
+    by_abort steps = subst (λ s. StepsByStatus old s (m.step ∷ steps)) (sym unready)
+        (m.step, steps, refl, m.is_kind, λ e. absurd (lost (sym m.found ∙ e)))
+
     found_new : Finds word new m.step
     found_new = finds_held Abort new new p q m refl
 
@@ -183,6 +203,7 @@ module _ (shape : Shape) (desc : ℕ) where
       steps = m.step ∷ s.steps;
       goes = both_after shape (m.step ∷ []) s.steps p q r m.goes s.goes;
       few = (s.few.0, s.few.1 ∙ same, found_before s.few.0 s.steps s.few.2, (let h = s.few.3 in omega (arith, h)));
+      by_status = by_abort s.steps;
       changes = All-cons (Decides shape desc) m.step s.steps (inr (m.there, inr m.is_kind)) s.changes;
       ends = ends_before end s.steps same s.ends;
     }
@@ -192,6 +213,7 @@ module _ (shape : Shape) (desc : ℕ) where
       steps = m.step ∷ [];
       goes = subst (λ v. IsAfter shape (m.step ∷ []) p v) (sym e) m.goes;
       few = (old, refl, inl refl, omega arith);
+      by_status = by_abort [];
       changes = All-cons (Decides shape desc) m.step [] (inr (m.there, inr m.is_kind)) (All-nil (Decides shape desc));
       ends = (new, other, (m.step, (0, omega arith, refl), found_new));
     }

@@ -124,7 +124,7 @@ module _ (shape : Shape) (word from : ℕ) where
     rises = rises;
     still = All-append StaysSame t.steps (m.step ∷ []) (settling_same t.steps t.changes) (one_load word left q r m);
     noted = flags_last shape Load word left left t.steps p q r t.goes m flag;
-    ends = record { settling = t.steps; last = m.step; order = refl; changes = t.changes; other = t.ends; looks = load_finds shape word left left q r m };
+    ends = record { settling = t.steps; last = m.step; order = refl; changes = t.changes; by_status = t.by_status; other = t.ends; looks = load_finds shape word left left q r m };
   }
 
   ends_later : (status left : ℕ) (end : End) (steps : List Step) → end ≢ Gone → TakenLater shape word from status end left steps → EndsLater shape word from status end left steps
@@ -146,6 +146,7 @@ module _ (shape : Shape) (word from : ℕ) where
       take = k.take;
       order = refl;
       changes = t.changes;
+      by_status = t.by_status;
       ends = t.ends;
       held = k.held;
       loads = k.loads;

@@ -70,7 +70,7 @@ checked shape desc i word recorded found stood p q r t a b c inside apart is =
       };
     }
 
-pub validated_none : (shape : Shape) (desc : ℕ) (p : PassView) → desc < desc_count shape → Validated shape desc 0 true p p
+abbrev pub validated_none : (shape : Shape) (desc : ℕ) (p : PassView) → desc < desc_count shape → Validated shape desc 0 true p p
 validated_none shape desc p exists = record { exists = exists; steps = []; goes = none_after shape p; few = omega arith; still = All-nil (LoadsNoStatus shape); finds = λ i h. absurd (omega (arith, h)) }
 
 pub validated_more : (shape : Shape) (desc i : ℕ) (p q r : PassView) → Validated shape desc i true p q → Checked shape desc i true q r → Validated shape desc (i + 1) true p r

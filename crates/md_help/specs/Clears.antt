@@ -21,7 +21,7 @@ use Rattle.md_help.specs.declared.settling.End.{End}
 use Rattle.md_help.specs.declared.settling.End.TheVariants.{Committed, Gone}
 use Rattle.md_help.specs.declared.clearing.Cleared.{Cleared}
 use Rattle.md_help.specs.After.{IsAfter}
-use Rattle.md_help.specs.Settles.{AreFewSteps, Decides, Ends, FindsOther}
+use Rattle.md_help.specs.Settles.{AreFewSteps, Decides, Ends, FindsOther, StepsByStatus}
 
 -- a pass settled an attempt of a descriptor: the first step asked for its status, the later ones settled what it found
 pub record SettlesOne (shape : Shape) (desc : ℕ) (end : End) (before after : PassView) : Type 0 where
@@ -31,6 +31,7 @@ pub record SettlesOne (shape : Shape) (desc : ℕ) (end : End) (before after : P
   pub goes : IsAfter shape (ask ∷ steps) before after
   pub asks : Loads (address shape (desc_status desc)) status ask
   pub few : AreFewSteps shape desc status 2 steps
+  pub by_status : StepsByStatus status (status_of status) steps
   pub changes : All (Decides shape desc) steps
   pub ends : Ends shape desc status steps end
 
@@ -125,6 +126,7 @@ pub record GoneLater (shape : Shape) (word from status left : ℕ) (steps : List
   pub last : Step
   pub order : steps ≡ settling ++ last ∷ []
   pub changes : All (Decides shape (desc_in from)) settling
+  pub by_status : StepsByStatus status (status_of status) settling
   pub other : FindsOther shape (desc_in from) status settling
   pub looks : Loads word left last
 
@@ -134,6 +136,7 @@ pub record TakenLater (shape : Shape) (word from status : ℕ) (end : End) (left
   pub take : Step
   pub order : steps ≡ settling ++ slot ∷ take ∷ []
   pub changes : All (Decides shape (desc_in from)) settling
+  pub by_status : StepsByStatus status (status_of status) settling
   pub ends : Ends shape (desc_in from) status settling end
   pub held : ℕ
   pub loads : Loads (address shape (slot_by_fate (fate_of end) (spot_of (value_of from)))) held slot

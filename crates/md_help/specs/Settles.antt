@@ -1,5 +1,5 @@
 -- How an attempt of a descriptor is settled.
-use Rattle.std.specs.Prelude.{◌≡◌, ◌≢◌, ◌+◌, ◌*◌, ◌<◌, ◌≤◌, ℕ, false, List, ◌∷◌, ◌++◌, All, length, ◌⊎◌}
+use Rattle.std.specs.Prelude.{◌≡◌, ◌≢◌, ◌+◌, ◌*◌, ◌<◌, ◌≤◌, ℕ, false, List, [], ◌∷◌, ◌++◌, All, length, ◌⊎◌}
 use Rattle.md_words.specs.declared.shape.Shape.{Shape}
 use Rattle.md_words.specs.declared.status.Status.{Status}
 use Rattle.md_words.specs.declared.status.Status.TheVariants.{InPrep, InProg}
@@ -86,11 +86,19 @@ abbrev pub Decides : Shape → (desc : ℕ) → Step → Type 0
 Decides shape desc s = LoadsNoStatus shape s
     ⊎ ((s.word ≡ address shape (desc_status desc)) × ((s.kind ≡ Commit) ⊎ (s.kind ≡ Abort)))
 
+-- how many steps a settling takes, by the status that it begins with. None if that is decided. If it's in progress one,
+-- and at most three for each read. If it's unready an abort, and no more if that won
+abbrev pub StepsByStatus : (first : ℕ) → Status → List Step → Type 0
+StepsByStatus first InPrep steps = (s : Step) × (rest : List Step) × (steps ≡ s ∷ rest) × (s.kind ≡ Abort) × (s.before ≡ first → rest ≡ [])
+StepsByStatus first InProg steps = (1 ≤ length steps) × (length steps ≤ 3 * reads_of first + 1)
+StepsByStatus first _ steps = steps ≡ []
+
 -- a pass settled the attempt of a status that it had met
 pub record Settled (shape : Shape) (desc first more : ℕ) (end : End) (before after : PassView) : Type 0 where
   pub steps : List Step
   pub goes : IsAfter shape steps before after
   pub few : AreFewSteps shape desc first more steps
+  pub by_status : StepsByStatus first (status_of first) steps
   pub changes : All (Decides shape desc) steps
   pub ends : Ends shape desc first steps end
 

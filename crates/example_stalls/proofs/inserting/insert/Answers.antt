@@ -10,6 +10,7 @@ use Rattle.md_rule.specs.Steps.{Stepped}
 use Rattle.md_rule.specs.Views.{PassState}
 use Rattle.md_rule.proofs.Told.{told_leave}
 use Rattle.example_stalls.specs.Inserting.{CarriesOut, MakesCommit, MakesReady, EndsAsAsked, EndsAtReady}
+use Rattle.example_stalls.specs.Stalled.{TakesTry}
 use Rattle.example_stalls.proofs.Puts.{finish_one, finish_two}
 use Rattle.example_stalls.proofs.inserting.insert.Goals as goal
 use Rattle.example_stalls.proofs.inserting.insert.Goals.{then-won+then-decides, else-won, else-won-via-then-won+else-decides, else-won-via-else-won}
@@ -78,3 +79,13 @@ returns-clause-lost c tried lost =
             (subst (λ (s : PassState). Stepped cell_meaning o (λ pass. mark_leave pass) s.view t) w.pass-is c.mark_leave.ensures.step)
       ]
     ])
+
+pub returns-clause-shares : goal.returns-clause-shares
+returns-clause-shares c tried =
+    let left = ap (λ (x : PassState). x.shares) c.mark_leave.ensures.same in
+    let entered = ap (λ (x : PassState). x.shares) c.enter-won.ensures.same in
+    elim c.if-won.branch [
+      | then-won+then-decides w ↦
+          subst (TakesTry c.args.pass.now) (sym (left ∙ ap (λ (x : PassState). x.shares) w.pass-is ∙ ap (λ (x : PassState). x.shares) w.commit-won.ensures.same ∙ entered)) c.operate.ensures.shares
+      | else-won w ↦ subst (TakesTry c.args.pass.now) (sym (left ∙ ap (λ (x : PassState). x.shares) w.pass-is ∙ entered)) c.operate.ensures.shares
+    ]

@@ -1,4 +1,4 @@
-use Rattle.std.proofs.Common.{◌≡◌, ◌+◌, ◌≤◌, [], ℕ, true, false, Some, sym, ap, subst, ◌∙◌, arith, inr}
+use Rattle.std.proofs.Common.{◌≡◌, ◌+◌, ◌≤◌, [], ℕ, true, false, Some, sym, ap, subst, ◌∙◌, arith, inl, inr}
 use Rattle.md_words.specs.declared.content.Content.{Content}
 use Rattle.md_words.specs.Content.{count_of, value_of, word_of}
 use Rattle.md_words.proofs.Words.{count_of-counted_word, value_of-counted_word}
@@ -7,9 +7,10 @@ use Rattle.md_machine.specs.declared.step.TheConstants.{LAST_COUNT}
 use Rattle.md_machine.specs.Event.{mark_start}
 use Rattle.example_cell.specs.CellMeaning.{cell_meaning}
 use Rattle.md_rule.specs.Steps.{Stepped}
-use Rattle.md_rule.specs.Views.{Origin}
+use Rattle.md_rule.specs.Views.{Origin, PassState}
 use Rattle.md_rule.proofs.Told.{told_leave}
-use Rattle.example_stalls.specs.Stalled.{AddsChange, Begins, PutsIn, StoresSlot}
+use Rattle.example_stalls.specs.Stalled.{AddsChange, Begins, OnlyShare, PutsIn, StoresSlot, TakesTry}
+use Rattle.example_stalls.proofs.Shares.{then_kept}
 use Rattle.example_stalls.proofs.Inserted.{acted, changed, changing, has_put, may_act, may_start, started}
 use Rattle.example_stalls.proofs.Puts.{and_step, makes_act, makes_leave, makes_start, six_steps}
 use Rattle.example_stalls.proofs.Slots.{holds_new, holds_slot}
@@ -110,3 +111,23 @@ returns-clause-puts c =
     let won = subst (λ won. PutsIn o.shape desc from won s t) c.if-not-put.false c.put.ensures.puts in
     let six = six_steps o.shape desc from c.args.value true p q r s t start.0 c.in-Some.ensures.some start.1 c.store_slot.ensures.stores won in
     (act.0, and_step o.shape desc from c.args.value true [] p t u act.0 six act.1)
+
+pub returns-then-not-put-clause-shares : goal.returns-then-not-put-clause-shares
+returns-then-not-put-clause-shares c =
+    let t = c.in-Some.ensures.takes in
+    let desc = c.in-Some.desc in
+    let begun = c.begin.new.pass.shares in
+    let put = subst (λ l. OnlyShare desc 0 l c.put.new.pass.shares)
+    (ap (λ (x : PassState). x.shares) c.store_slot.ensures.same ∙ ap (λ (x : PassState). x.shares) c.mark_start.ensures.same) c.put.ensures.shares in
+    subst (TakesTry c.args.pass.now) (sym (ap (λ (x : PassState). x.shares) c.mark_leave.ensures.same))
+    (inl (desc, record { lowest = t.lowest; only = then_kept desc 1 c.args.pass.now.shares begun c.put.new.pass.shares t.only put }))
+
+pub returns-clause-shares : goal.returns-clause-shares
+returns-clause-shares c =
+    let t = c.in-Some.ensures.takes in
+    let desc = c.in-Some.desc in
+    let begun = c.begin.new.pass.shares in
+    let put = subst (λ l. OnlyShare desc 0 l c.put.new.pass.shares)
+    (ap (λ (x : PassState). x.shares) c.store_slot.ensures.same ∙ ap (λ (x : PassState). x.shares) c.mark_start.ensures.same) c.put.ensures.shares in
+    subst (TakesTry c.args.pass.now) (sym (ap (λ (x : PassState). x.shares) c.mark_act.ensures.same))
+    (inl (desc, record { lowest = t.lowest; only = then_kept desc 1 c.args.pass.now.shares begun c.put.new.pass.shares t.only put }))

@@ -1,4 +1,4 @@
-use Rattle.std.proofs.Common.{◌≡◌, ◌+◌, ℕ, length, get_or-set_same, sym, ap, ◌∙◌, subst, ⊎_elim, arith}
+use Rattle.std.proofs.Common.{◌≡◌, ◌+◌, ℕ, length, get_or-set_same, refl, inl, sym, ap, ◌∙◌, subst, ⊎_elim, arith}
 use Rattle.std.proofs.lemmas.Bool.{cases_lt}
 use Rattle.md_rule_lanes.specs.Shares.{share_at}
 use Rattle.md_rule.specs.Views.{PassState}
@@ -7,6 +7,8 @@ use Rattle.md_rule.specs.Lanes.{AreLanes}
 use Rattle.md_rule.proofs.LaneLists.{lane_fits}
 use Rattle.md_arena.specs.Left.{HasTryLeft, IsLowest}
 use Rattle.md_arena.specs.Taking.{TakesDesc}
+use Rattle.example_stalls.specs.Stalled.{OnlyShare, TakesTryOf}
+use Rattle.example_stalls.proofs.Shares.{only_set}
 use Rattle.example_stalls.proofs.stalling.first_attempt.Goals as goal
 
 -- the taken lane has one attempt more
@@ -49,3 +51,19 @@ returns-clause-some c =
       serial = λ segment x s i held meets. ⊎_elim (λ zero. omega (arith, zero)) (λ less. omega (arith, less, none)) (k.serials segment x s i held meets);
       taken = one;
     }
+
+-- the taken lane's share alone changed
+takes : (p q : PassState) (desc : ℕ) → AreLanes p.shape p.view.lanes → length p.shares ≡ 64 → TakesDesc p desc q → TakesTryOf p desc q.shares
+takes p q desc lanes len t =
+    let fits = lane_fits p.shape p.view.lanes desc lanes t.0.held in record {
+      lowest = t.0;
+      only = subst (OnlyShare desc 1 p.shares) (sym (ap (λ (x : PassState). x.shares) t.1)) (only_set p.shares desc 1 _ (omega (arith, fits, len)) refl refl);
+    }
+
+pub returns-clause-takes : goal.returns-clause-takes
+returns-clause-takes c =
+    takes c.args.pass.now c.take_descriptor.new.pass c.in-Ok.desc c.kept.ensures.lanes c.kept.ensures.shares c.in-Ok.ensures.takes
+
+pub returns-then-tries_taken-ne1-clause-shares : goal.returns-then-tries_taken-ne1-clause-shares
+returns-then-tries_taken-ne1-clause-shares c =
+    inl (c.in-Ok.desc, takes c.args.pass.now c.take_descriptor.new.pass c.in-Ok.desc c.kept.ensures.lanes c.kept.ensures.shares c.in-Ok.ensures.takes)

@@ -1,8 +1,10 @@
-use Rattle.std.proofs.Common.{sym, ap, subst, ◌∙◌}
+use Rattle.std.proofs.Common.{refl, sym, ap, subst, ◌∙◌}
 use Rattle.md_words.specs.Content.{word_of}
 use Rattle.md_machine.specs.Event.{install}
 use Rattle.example_cell.specs.CellMeaning.{cell_meaning, cell_word}
 use Rattle.md_rule.specs.Steps.{May, SteppedFrom}
+use Rattle.example_stalls.specs.Stalled.{OnlyShare}
+use Rattle.example_stalls.proofs.Shares.{only_kept, only_none}
 use Rattle.example_stalls.proofs.Slots.{adds_lost, adds_won, may_install, no_next, put_lost, put_won}
 use Rattle.example_stalls.proofs.stalling.put.Goals as goal
 
@@ -56,3 +58,12 @@ returns-in-Err-clause-hand c =
     let from = word_of c.args.found in
     adds_lost cell_meaning o desc p c.requires.first from q c.in-Err.field-0 c.in-Err.ensures.step.0
     (subst (λ w. SteppedFrom cell_meaning o (λ pass. install pass w from (record { desc = desc; slot = 0 })) w c.in-Err.field-0 p q) c.ticket_word.ensures.place c.in-Err.ensures.step.1)
+
+pub returns-in-Ok-clause-shares : goal.returns-in-Ok-clause-shares
+returns-in-Ok-clause-shares c =
+    subst (OnlyShare c.args.desc 0 c.args.pass.now.shares) (sym c.in-Ok.ensures.shares)
+    (only_kept c.args.pass.now.shares c.args.desc _ refl refl)
+
+pub returns-in-Err-clause-shares : goal.returns-in-Err-clause-shares
+returns-in-Err-clause-shares c =
+    subst (OnlyShare c.args.desc 0 c.args.pass.now.shares) (sym c.in-Err.ensures.shares) (only_none c.args.pass.now.shares c.args.desc)

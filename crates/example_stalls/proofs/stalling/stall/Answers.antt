@@ -1,4 +1,4 @@
-use Rattle.std.proofs.Common.{◌++◌, ◌∷◌, [], ap, ◌∙◌, arith, append_assoc}
+use Rattle.std.proofs.Common.{◌++◌, ◌∷◌, [], inl, sym, ap, subst, ◌∙◌, arith, append_assoc}
 use Rattle.md_words.specs.Content.{word_of}
 use Rattle.md_machine.specs.declared.pass.PassView.{PassView}
 use Rattle.md_machine.specs.declared.step.Kind.TheVariants.{Load}
@@ -6,6 +6,9 @@ use Rattle.md_machine.specs.Machine.{content}
 use Rattle.md_machine.specs.Stepping.{step_of}
 use Rattle.example_cell.specs.CellMeaning.{cell_meaning}
 use Rattle.md_rule.proofs.Told.{told_leave}
+use Rattle.md_rule.specs.Views.{PassState}
+use Rattle.example_stalls.specs.Stalled.{OnlyShare, TakesTry}
+use Rattle.example_stalls.proofs.Shares.{then_kept}
 use Rattle.example_stalls.proofs.Slots.{holds_slot}
 use Rattle.example_stalls.proofs.stalling.stall.Goals as goal
 
@@ -46,3 +49,12 @@ returns-clause-some c =
       stores_new = t.stores_new;
       puts = i.is;
     }
+
+pub returns-clause-shares : goal.returns-clause-shares
+returns-clause-shares c =
+    let t = c.in-Some.ensures.takes in
+    let desc = c.in-Some.desc in
+    let begun = c.begin.new.pass.shares in
+    let put = subst (λ l. OnlyShare desc 0 l c.put-won.new.pass.shares) (ap (λ (x : PassState). x.shares) c.store_slot.ensures.same) c.put-won.ensures.shares in
+    subst (TakesTry c.args.pass.now) (sym (ap (λ (x : PassState). x.shares) c.mark_leave.ensures.same))
+    (inl (desc, record { lowest = t.lowest; only = then_kept desc 1 c.args.pass.now.shares begun c.put-won.new.pass.shares t.only put }))

@@ -1,5 +1,6 @@
-use Rattle.std.proofs.Common.{inr, [], ◌∷◌, true, refl, inl, arith, ap, subst, ◌∙◌, rules}
+use Rattle.std.proofs.Common.{inr, [], ◌∷◌, true, refl, inl, arith, sym, ap, subst, ◌∙◌, rules}
 use Rattle.md_help.specs.Owns.{KnowsEnd}
+use Rattle.md_help.specs.Settles.{StepsByStatus}
 use Rattle.md_words.specs.declared.status.Status.TheVariants.{Aborted as IsAborted}
 use Rattle.md_words.specs.Layout.{address}
 use Rattle.md_words.specs.Place.{desc_status}
@@ -75,7 +76,8 @@ returns-in-Ok-clause-settled g c =
     let p = c.args.pass.now.view in
     let q = c.abort.new.self.view in
     let m = abort_won g.T.Theory.meaning o c.args.desc c.args.status p q c.in-Ok.ensures.step in
-    settled_aborted o.shape c.args.desc c.args.status 0 2 true Abort c.args.status (decided_word IsAborted c.args.status) p p q (validated_none o.shape c.args.desc p c.requires.attempt.exists) m (inr refl) (omega arith) (omega arith) refl refl (inl c.requires.unready)
+    settled_aborted o.shape c.args.desc c.args.status 0 2 true Abort c.args.status (decided_word IsAborted c.args.status) p p q (validated_none o.shape c.args.desc p c.requires.attempt.exists) m (inr refl) (omega arith) (omega arith)
+    (subst (λ s. StepsByStatus c.args.status s (m.step ∷ [])) (sym c.requires.unready) (m.step, [], refl, m.is_kind, λ _. refl)) refl refl (inl c.requires.unready)
 
 pub returns-in-Err-clause-settled : goal.returns-in-Err-clause-settled
 returns-in-Err-clause-settled g c =
@@ -83,7 +85,7 @@ returns-in-Err-clause-settled g c =
     let p = c.args.pass.now.view in
     let q = c.abort.new.self.view in
     let step = c.in-Err.ensures.step in
-    settled_newer o.shape c.args.desc c.args.status c.in-Err.newer p q c.settle_newer.new.pass.view (abort_lost g.T.Theory.meaning o c.args.desc c.args.status c.in-Err.newer p q step.0 step.1) c.settle_newer.result c.settle_newer.ensures.settled
+    settled_newer o.shape c.args.desc c.args.status c.in-Err.newer p q c.settle_newer.new.pass.view (abort_lost g.T.Theory.meaning o c.args.desc c.args.status c.in-Err.newer p q step.0 step.1) c.requires.unready step.0 c.settle_newer.result c.settle_newer.ensures.settled
 
 pub returns-in-Ok-clause-own : goal.returns-in-Ok-clause-own
 returns-in-Ok-clause-own g c own =

@@ -10,7 +10,7 @@ use Rattle.md_machine.specs.events.Decide.{decided_word}
 use Rattle.md_rule.proofs.LaneLists.{reaches}
 use Rattle.md_rule.specs.Views.{PassState}
 use Rattle.md_help.proofs.Deciding.{abort_lost, abort_won, commit_lost, commit_won, lost_decided, may_abort, may_commit, may_commit_by, met_after, moved_by, newer_came, reached_after, validated_at}
-use Rattle.md_help.proofs.Ends.{moved_read, settled_aborted, settled_committed, settled_lost}
+use Rattle.md_help.proofs.Ends.{by_reads, moved_read, settled_aborted, settled_committed, settled_lost}
 use Rattle.md_help.proofs.Steps.{stands_made}
 use Rattle.md_help.specs.declared.settling.End.TheVariants.{Committed, Aborted}
 use Rattle.md_help.proofs.Ends.{decided_serial, decided_status}
@@ -55,7 +55,9 @@ returns-in-Ok-clause-settled g c =
     let q = c.validate.new.pass.view in
     let r = c.commit.new.self.view in
     let v = validated_at o.shape c.args.desc c.of.result c.args.status c.validate.result true p q c.of.ensures.parts c.if-validate.true c.validate.ensures.validated in
-    settled_committed o.shape c.args.desc c.args.status _ 1 true Commit c.args.status (decided_word IsCommitted c.args.status) p q r v (commit_won g.T.Theory.meaning o c.args.desc c.args.status q r c.in-Ok.ensures.step) (inl refl) (le_refl _) (le_refl 1) refl refl
+    let m = (commit_won g.T.Theory.meaning o c.args.desc c.args.status q r c.in-Ok.ensures.step) in
+    settled_committed o.shape c.args.desc c.args.status _ 1 true Commit c.args.status (decided_word IsCommitted c.args.status) p q r v m (inl refl) (le_refl _) (le_refl 1)
+    (by_reads o.shape c.args.desc c.args.status _ 1 true Commit c.args.status (decided_word IsCommitted c.args.status) p q r v m (inl refl) (le_refl _) (le_refl 1) c.requires.in_progress) refl refl
 
 pub returns-in-Err-clause-steps : goal.returns-in-Err-clause-steps
 returns-in-Err-clause-steps g c =
@@ -78,7 +80,9 @@ returns-in-Err-clause-settled g c =
     let r = c.commit.new.self.view in
     let step = c.in-Err.ensures.step in
     let v = validated_at o.shape c.args.desc c.of.result c.args.status c.validate.result true p q c.of.ensures.parts c.if-validate.true c.validate.ensures.validated in
-    settled_lost o.shape c.args.desc c.args.status _ 1 true Commit c.in-Err.newer c.in-Err.newer p q r v (commit_lost g.T.Theory.meaning o c.args.desc c.args.status c.in-Err.newer q r step.0 step.1) (inl refl) (le_refl _) (le_refl 1) c.end_of.result c.end_of.ensures
+    let m = (commit_lost g.T.Theory.meaning o c.args.desc c.args.status c.in-Err.newer q r step.0 step.1) in
+    settled_lost o.shape c.args.desc c.args.status _ 1 true Commit c.in-Err.newer c.in-Err.newer p q r v m (inl refl) (le_refl _) (le_refl 1)
+    (by_reads o.shape c.args.desc c.args.status _ 1 true Commit c.in-Err.newer c.in-Err.newer p q r v m (inl refl) (le_refl _) (le_refl 1) c.requires.in_progress) c.end_of.result c.end_of.ensures
 
 pub abort-requires-clause-may : goal.abort-requires-clause-may
 abort-requires-clause-may g c =
@@ -130,7 +134,8 @@ returns-in-Ok-abort-clause-settled g c =
     let r = c.abort.new.self.view in
     let v = validated_at o.shape c.args.desc c.of.result c.args.status c.validate.result false p q c.of.ensures.parts c.if-validate.false c.validate.ensures.validated in
     let m = abort_won g.T.Theory.meaning o c.args.desc c.args.status q r c.in-Ok-abort.ensures.step in
-    settled_aborted o.shape c.args.desc c.args.status _ 1 false Abort c.args.status (decided_word IsAborted c.args.status) p q r v m (inr refl) (le_refl _) (le_refl 1) refl refl
+    settled_aborted o.shape c.args.desc c.args.status _ 1 false Abort c.args.status (decided_word IsAborted c.args.status) p q r v m (inr refl) (le_refl _) (le_refl 1)
+    (by_reads o.shape c.args.desc c.args.status _ 1 false Abort c.args.status (decided_word IsAborted c.args.status) p q r v m (inr refl) (le_refl _) (le_refl 1) c.requires.in_progress) refl refl
     (inr (moved_read o.shape c.args.desc c.args.status p q v (m.step ∷ []) c.requires.in_progress))
 
 pub returns-in-Err-abort-clause-steps : goal.returns-in-Err-abort-clause-steps
@@ -154,7 +159,9 @@ returns-in-Err-abort-clause-settled g c =
     let r = c.abort.new.self.view in
     let step = c.in-Err-abort.ensures.step in
     let v = validated_at o.shape c.args.desc c.of.result c.args.status c.validate.result false p q c.of.ensures.parts c.if-validate.false c.validate.ensures.validated in
-    settled_lost o.shape c.args.desc c.args.status _ 1 false Abort c.in-Err-abort.newer c.in-Err-abort.newer p q r v (abort_lost g.T.Theory.meaning o c.args.desc c.args.status c.in-Err-abort.newer q r step.0 step.1) (inr refl) (le_refl _) (le_refl 1) c.end_of-in-Err-abort.result c.end_of-in-Err-abort.ensures
+    let m = (abort_lost g.T.Theory.meaning o c.args.desc c.args.status c.in-Err-abort.newer q r step.0 step.1) in
+    settled_lost o.shape c.args.desc c.args.status _ 1 false Abort c.in-Err-abort.newer c.in-Err-abort.newer p q r v m (inr refl) (le_refl _) (le_refl 1)
+    (by_reads o.shape c.args.desc c.args.status _ 1 false Abort c.in-Err-abort.newer c.in-Err-abort.newer p q r v m (inr refl) (le_refl _) (le_refl 1) c.requires.in_progress) c.end_of-in-Err-abort.result c.end_of-in-Err-abort.ensures
 
 pub returns-in-Ok-clause-own : goal.returns-in-Ok-clause-own
 returns-in-Ok-clause-own g c own =

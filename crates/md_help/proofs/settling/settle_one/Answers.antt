@@ -67,6 +67,7 @@ returns-clause-settles g c =
       goes = both_after o.shape (m.step ∷ []) s.steps p q c.settle.new.pass.view m.goes s.goes;
       asks = load_finds o.shape (address o.shape (desc_status c.args.desc)) c.load-status.result c.load-status.result p q m;
       few = s.few;
+      by_status = s.by_status;
       changes = s.changes;
       ends = s.ends;
     }
