@@ -11,7 +11,7 @@ use Rattle.md_machine.specs.declared.certificate.Certificate.{Certificate}
 use Rattle.md_machine.specs.declared.certificate.Change.{Change}
 use Rattle.md_machine.specs.declared.certificate.NewNode.{NewNode}
 use Rattle.md_machine.specs.declared.certificate.TidyChange.{TidyChange}
-use Rattle.md_machine.specs.Certified.{all_changes, all_nodes, whole_nodes}
+use Rattle.md_machine.specs.Certified.{all_nodes, whole_nodes}
 use Rattle.md_machine.proofs.lists.Rising.{in_map, map_in}
 use Rattle.md_nbtc_law.specs.Calls.{GoesOn}
 use Rattle.md_nbtc_law.specs.Going.{IsGoing}

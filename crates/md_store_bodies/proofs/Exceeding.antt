@@ -18,7 +18,7 @@ use Rattle.md_machine.proofs.lists.Differ.{pairs_append}
 use Rattle.md_machine.proofs.lists.Rising.{in_cons, in_map, in_none}
 use Rattle.md_rule.specs.Views.{FieldView}
 use Rattle.md_store_counts.specs.Few.{AllCharged, RecordsOne, StandFrom, certificate_acts, changed_words, recorded_words}
-use Rattle.md_store_counts.proofs.Fronts.{recorded_are_few}
+use Rattle.md_store_counts.proofs.Recording.{recorded_are_few}
 use Rattle.md_store_counts.proofs.Writing.{written_are_few}
 use Rattle.md_store_bodies.specs.Counted.{Exceeds}
 use Rattle.md_store_bodies.specs.Store.{start_of}

@@ -1,5 +1,5 @@
 -- An operation of a list that was refused by a limit, in the first transaction of a fresh store, exceeds the limits.
-use Rattle.std.proofs.Common.{◌≡◌, ◌≢◌, ◌≤◌, ◌+◌, ◌++◌, ◌==◌, ◌∙◌, ℕ, List, [], ◌∷◌, map, length, refl, sym, ap, subst, inl, inr, ⊎_elim, eq-eqb, append_assoc, Option, Some, None, arith}
+use Rattle.std.proofs.Common.{cond, ◌≡◌, ◌≢◌, ◌⊎◌, ◌≤◌, ◌+◌, ◌++◌, ◌==◌, ◌∙◌, ℕ, true, List, [], ◌∷◌, map, length, refl, sym, ap, subst, inl, inr, ⊎_elim, eq-eqb, append_assoc, Option, Some, None, arith}
 use Rattle.std.specs.Prelude.{is_none}
 use Rattle.std.specs.List.{All, Contains}
 use Rattle.std.specs.FinMap as fin
@@ -7,10 +7,12 @@ use Rattle.std.proofs.lemmas.Bool.{cond_both, false≢true}
 use Rattle.std.proofs.lemmas.Option.{none-some}
 use Rattle.std.proofs.lemmas.List.{append-nil, length-map, map-append}
 use Rattle.std.proofs.lemmas.List.Concat.{flat_map-append}
+use Rattle.std.proofs.lemmas.List.Sums.{sum_by-cons}
 use Rattle.std.proofs.lemmas.List.Elements.{All-append, All-cons, All-nil, Contains-append_right}
 use Rattle.md_words.specs.declared.limits.TheConstants.{SET}
 use Rattle.md_words.specs.declared.shape.Shape.{Shape}
 use Rattle.md_words.specs.Layout.{bucket_of}
+use Rattle.md_history.specs.declared.acts.Act.{Act}
 use Rattle.md_history.specs.declared.acts.Op.{Op}
 use Rattle.md_history.specs.declared.acts.Op.TheVariants.{Get, Insert}
 use Rattle.md_history.specs.declared.acts.Reply.{Reply}
@@ -19,7 +21,7 @@ use Rattle.md_history.specs.declared.stops.Limit.TheVariants.{Nodes, Reads, Writ
 use Rattle.md_history.specs.declared.stops.Stop.{Stop}
 use Rattle.md_history.specs.declared.stops.Stop.TheVariants.{Limit as Limited}
 use Rattle.md_history.specs.Act.{act_of}
-use Rattle.md_history.specs.Counts.{nodes}
+use Rattle.md_history.specs.Counts.{added, nodes}
 use Rattle.md_history.specs.CountLaws.{nodes-append}
 use Rattle.md_history.specs.State.{IsRight, answer, map_at, run}
 use Rattle.md_machine.specs.declared.attempt.Read.{Read}
@@ -43,7 +45,7 @@ use Rattle.md_nbtc_law.proofs.ready.Lookups.{all_of}
 use Rattle.md_nbtc_law.proofs.ready.Standing.{pairs_map}
 use Rattle.md_rule_lanes.specs.Shares.{share_at}
 use Rattle.md_rule.specs.Views.{FieldView, PassState}
-use Rattle.md_list.specs.Refusals.{HasSeen, IsAbsent, IsRefused, NeedsNode, NeedsRead, NeedsSlot, NeedsUnlink, OneMoreChange, OneMoreRead, OneMoreUnlink, WouldStand}
+use Rattle.md_list.specs.Refusals.{HasSeen, IsAbsent, IsRefused, NeedsNewNode, NeedsNode, NeedsRead, NeedsSlot, NeedsUnlink, OneMoreChange, OneMoreRead, OneMoreUnlink, WouldStand}
 use Rattle.md_list.specs.Walking.{IsHeadOf}
 use Rattle.md_store_law.specs.Store.{store}
 use Rattle.md_store_counts.specs.Few.{AllCharged, RecordsOne, StandFrom, TidyCharged, certificate_acts, placed_nexts, read_before, recorded_by, recorded_words, words_of_changes}
@@ -76,6 +78,15 @@ only word = here word []
 no_value : (o : Option ℕ) → Value None ≡ Value o → o ≡ None
 no_value None is = refl
 no_value (Some v) is = absurd (cc is)
+
+one_node : (a : Act) → added a.op a.reply ≡ true → nodes (a ∷ []) ≡ 1
+one_node a is =
+    let sum = sum_by-cons (λ (x : Act). cond (added x.op x.reply) 1 0) a [] in
+    let one : cond (added a.op a.reply) 1 0 ≡ 1 = ap (λ b. cond b 1 0) is in
+    sum ∙ ap (λ n. n + 0) one
+
+one_added : (acts : List Act) (a : Act) → added a.op a.reply ≡ true → nodes (acts ++ a ∷ []) ≡ nodes acts + 1
+one_added acts a is = nodes-append acts (a ∷ []) ∙ ap (λ n. nodes acts + n) (one_node a is)
 
 module _ (f : FieldView) (p : PassState) (of : IsPassOf f p) (fresh : IsFresh p) (tag : ℕ) (start t : TxnState) (begins : BeginsTransaction p tag start)
     (later : IsLater start t) (field : t.field ≡ f) (cs : List Certificate) (counted : HasCountedCertificates t cs) where
@@ -177,12 +188,17 @@ module _ (f : FieldView) (p : PassState) (of : IsPassOf f p) (fresh : IsFresh p)
       ∙ ap (λ o. nodes (certificate_acts cs) + nodes (act_of (Insert map_of key value) (Flag (is_none o)) ∷ [])) absent in
       more_nodes f (certificate_acts cs) before_right (Insert map_of key value) (omega (arith, full, placed, many, more))
 
+-- why an operation of a list was refused for want of nodes: it takes one in any case, or it inserts a key that is absent
+abbrev pub WantsNode : (s u : TxnState) (head key : ℕ) (op : ℕ → Op) → Type 0
+WantsNode s u head key op =
+    (((map_of : ℕ) (r : Reply) → added (op map_of) r ≡ true) × IsRefused store s u (Limited Nodes) (NeedsNewNode s))
+    ⊎ ((value : ℕ) × ((map_of : ℕ) → op map_of ≡ Insert map_of key value) × IsRefused store s u (Limited Nodes) (NeedsNode store s head key))
+
 -- why an operation of a list was refused by a limit: the transaction goes on from s, where the operation was begun, to u
 pub record ListLimits (s u : TxnState) (head key : ℕ) (op : ℕ → Op) (why : Stop) : Type 0 where
   pub reads : why ≡ Limited Reads → IsRefused store s u (Limited Reads) (NeedsRead store s head key op)
   pub writes : why ≡ Limited Writes → IsRefused store s u (Limited Writes) (NeedsSlot store s head key op)
-  pub nodes : why ≡ Limited Nodes → (value : ℕ) × ((map_of : ℕ) → op map_of ≡ Insert map_of key value)
-      × IsRefused store s u (Limited Nodes) (NeedsNode store s head key)
+  pub nodes : why ≡ Limited Nodes → WantsNode s u head key op
 
 -- an unlink is one way to need a slot
 pub needs_slot : {s u : TxnState} {head key : ℕ} {op : ℕ → Op} → IsRefused store s u (Limited Writes) (NeedsUnlink store s head key)
@@ -217,6 +233,33 @@ module _ (p : PassState) (s u : TxnState) (of : IsPassOf s.field p) (fresh : IsF
       ∙ ap (λ l. map (λ (x : NewNode). x.node) (all_nodes cs) ++ l) stored ∙ append-nil (map (λ (x : NewNode). x.node) (all_nodes cs)) in
       sym (length-map s.nodes (λ (x : OwnNode). x.node)) ∙ ap length order ∙ length-map (all_nodes cs) (λ (x : NewNode). x.node)
 
+  -- an operation that takes a node in any case
+  pub new_node_exceeds : (op : Op) → ((r : Reply) → added op r ≡ true) → u.nodes ≡ s.nodes → why ≡ Limited Nodes → Exceeds s.field (certificate_acts cs) op
+  new_node_exceeds op adds same is =
+      let enough = many_nodes is in
+      let then = nodes_then in
+      let counts = ap length same in
+      let placed = placed_are_counted (fresh_heap s.field p of fresh tag start s begins later refl cs counted.going) cs
+      (stand_from s.field p of fresh tag start s begins later refl cs counted.going) in
+      let state = run (start_of s.field) (certificate_acts cs) in
+      let more = one_added (certificate_acts cs) (act_of op (answer state op)) (adds (answer state op)) in
+      more_nodes s.field (certificate_acts cs) (acts_right s.field p of fresh tag start s begins later refl cs counted.going) op
+      (omega (arith, enough, then, counts, placed, more))
+
+  -- an insert of an absent key
+  insert_exceeds : (head key : ℕ) (op : ℕ → Op) (map_of : ℕ) → IsHeadOf (shape_in s) map_of key head → why ≡ Limited Nodes → (value : ℕ)
+      → op map_of ≡ Insert map_of key value → IsRefused store s u (Limited Nodes) (NeedsNode store s head key) → Exceeds s.field (certificate_acts cs) (op map_of)
+  insert_exceeds head key op map_of is_head is value op_is r =
+      let x = r.before in
+      let nodes_x : x.nodes ≡ u.nodes = ap (λ (y : TxnState). y.nodes) (sym r.same) in
+      let same = ap length r.needs.0 in
+      let enough = many_nodes is in
+      let counts = ap length nodes_x in
+      let then = nodes_then in
+      subst (Exceeds s.field (certificate_acts cs)) (sym op_is)
+      (list_nodes s.field p of fresh tag start x begins (over x r.on) r.on.later.field cs (counted_later s x cs counted r.on r.reads) map_of key value
+      (r.needs.1 map_of is_head cs counted.going) (same ∙ then) (omega (arith, enough, counts)))
+
   -- an operation of a list
   pub list_exceeds : (head key : ℕ) (op : ℕ → Op) (map_of : ℕ) → IsHeadOf (shape_in s) map_of key head → ListLimits s u head key op why → IsCountLimit why
       → Exceeds s.field (certificate_acts cs) (op map_of)
@@ -233,15 +276,7 @@ module _ (p : PassState) (s u : TxnState) (of : IsPassOf s.field p) (fresh : IsF
       (λ unlink. list_unlinks s.field p of fresh tag start x begins (over x r.on) r.on.later.field cs counted_x map_of (bucket_of (shape_in s) key) head unlink full (op map_of))
       (λ change. list_writes s.field p of fresh tag start x begins (over x r.on) r.on.later.field cs counted_x map_of key (op map_of) change full)
       (r.needs map_of is_head cs counted.going)
-  list_exceeds head key op map_of is_head limits (inr (inr nodes)) =
-      let n = limits.nodes nodes in
-      let r = n.2 in
-      let x = r.before in
-      let nodes_x : x.nodes ≡ u.nodes = ap (λ (y : TxnState). y.nodes) (sym r.same) in
-      let same = ap length r.needs.0 in
-      let enough = many_nodes nodes in
-      let counts = ap length nodes_x in
-      let then = nodes_then in
-      subst (Exceeds s.field (certificate_acts cs)) (sym (n.1 map_of))
-      (list_nodes s.field p of fresh tag start x begins (over x r.on) r.on.later.field cs (counted_later s x cs counted r.on r.reads) map_of key n.0
-      (r.needs.1 map_of is_head cs counted.going) (same ∙ then) (omega (arith, enough, counts)))
+  list_exceeds head key op map_of is_head limits (inr (inr nodes)) = ⊎_elim
+      (λ any. let r = any.1 in new_node_exceeds (op map_of) (any.0 map_of) (ap (λ (y : TxnState). y.nodes) r.same ∙ r.needs) nodes)
+      (λ one. insert_exceeds head key op map_of is_head nodes one.0 (one.1 map_of) one.2)
+      (limits.nodes nodes)

@@ -1,12 +1,12 @@
 -- An operation of a queue that was refused by a limit, in the first transaction of a fresh store, exceeds the limits.
-use Rattle.std.proofs.Common.{cond, ◌≡◌, ◌≤◌, ◌+◌, ◌++◌, ◌⊎◌, ◌∙◌, ℕ, true, false, List, [], ◌∷◌, map, length, refl, sym, ap, subst, inl, inr, ⊎_elim, append_assoc, Option, None, arith}
-use Rattle.std.specs.Prelude.{nat_eq}
-use Rattle.std.specs.List.{All, Contains, count_by, filter_map, sum_by}
-use Rattle.std.proofs.lemmas.Bool.{false≢true}
-use Rattle.std.proofs.lemmas.List.{append-nil, map-append}
+use Rattle.std.proofs.Common.{Bool, ◌≡◌, ◌≤◌, ◌++◌, ◌⊎◌, ◌∙◌, ℕ, true, false, List, [], ◌∷◌, map, length, refl, sym, ap, subst, inl, inr, ⊎_elim, append_assoc, Option, None, take, le-ltb, lt-ltb, arith}
+use Rattle.std.specs.Prelude.{nat_eq, nat_lt}
+use Rattle.std.specs.List.{All, Contains, count_by, filter_map}
+use Rattle.std.proofs.lemmas.Bool.{cases_lt, false≢true}
+use Rattle.std.proofs.lemmas.List.{append-nil, length-take, map-append}
 use Rattle.std.proofs.lemmas.List.Concat.{flat_map-append}
 use Rattle.std.proofs.lemmas.List.Elements.{All-append, All-cons, All-nil, Contains-append_right, filter_map-append}
-use Rattle.std.proofs.lemmas.List.Sums.{sum_by-append, sum_by-cons}
+use Rattle.std.proofs.lemmas.List.Sums.{sum_by-cons}
 use Rattle.md_history.specs.declared.acts.Act.{Act}
 use Rattle.md_history.specs.declared.acts.Op.{Op}
 use Rattle.md_history.specs.declared.acts.Op.TheVariants.{Line}
@@ -15,9 +15,9 @@ use Rattle.md_history.specs.declared.stops.Limit.TheVariants.{Nodes, Reads, Writ
 use Rattle.md_history.specs.declared.stops.Stop.{Stop}
 use Rattle.md_history.specs.declared.stops.Stop.TheVariants.{Limit as Limited}
 use Rattle.md_history.specs.Act.{act_of}
-use Rattle.md_history.specs.Counts.{added, asked_queue, changed_nothing, dequeued, different, line_words, nodes, reads}
-use Rattle.md_history.specs.CountLaws.{count-append, nodes-append}
-use Rattle.md_history.specs.State.{IsRight, State, answer, run}
+use Rattle.md_history.specs.Counts.{added, changed_nothing, different, looked_queue, met_end, reads}
+use Rattle.md_history.specs.CountLaws.{count-append}
+use Rattle.md_history.specs.State.{IsRight, State, answer, queue_at, run}
 use Rattle.md_machine.specs.declared.attempt.Read.{Read}
 use Rattle.md_machine.specs.declared.certificate.Certificate.{Certificate}
 use Rattle.md_machine.specs.declared.certificate.TidyChange.{TidyChange}
@@ -38,36 +38,36 @@ use Rattle.md_queue.specs.Refusals.{BeganAlone, ChangeRefused, MoveRefused, Read
 use Rattle.md_store_law.specs.Store.{store}
 use Rattle.md_store_counts.specs.Few.{AllCharged, RecordsOne, StandFrom, TidyCharged, certificate_acts, is_of_map, placed_nexts, read_before, recorded_by, recorded_words, words_of_changes}
 use Rattle.md_store_counts.proofs.Appending.{charged_more}
-use Rattle.md_store_counts.proofs.Fronts.{recorded_are_few}
-use Rattle.md_store_counts.proofs.Placing.{placed_are_counted}
+use Rattle.md_store_counts.proofs.Placing.{one_if}
+use Rattle.md_store_counts.proofs.Recording.{recorded_are_few}
 use Rattle.md_store_counts.proofs.Writing.{tidied_are_few}
 use Rattle.md_store_bodies.specs.Counted.{Exceeds, IsCountLimit, HasCountedCertificates}
 use Rattle.md_store_bodies.specs.Store.{IsFresh, IsPassOf, start_of}
 use Rattle.md_store_bodies.proofs.Charging.{counted_at, queue_charged, queue_reads, reads_more}
-use Rattle.md_store_bodies.proofs.Exceeding.{asked_is, changed_exceed, more_nodes, more_reads, more_writes_before, one_more_word}
+use Rattle.md_store_bodies.proofs.Exceeding.{asked_is, changed_exceed, more_reads, more_writes_before, one_more_word}
 use Rattle.md_store_bodies.proofs.FreshHeaps.{acts_right, fresh_heap, heap_shape, holds, is_heap, next_right, next_stands, stand_from, tidies_stand}
-use Rattle.md_store_bodies.proofs.ListRefusals.{many_nodes, nodes_then}
+use Rattle.md_store_bodies.proofs.ListRefusals.{new_node_exceeds}
 use Rattle.md_store_bodies.proofs.WrittenWords.{all_named, with_word, words_differ}
 
 -- an operation on a queue counts no more reads than another one, each with its right reply
 abbrev pub AsksLess : (less more : Op) → Type 0
 AsksLess less more = (is_of_map less ≡ false) × ((acts : List Act) (s : State) → reads (acts ++ act_of less (answer s less) ∷ []) ≤ reads (acts ++ act_of more (answer s more) ∷ []))
 
--- an operation that asks for no more values of the same queue does so
-module _ (acts : List Act) (a b : Act) (same : filter_map (λ (x : Act). asked_queue x.op x.reply) (a ∷ []) ≡ filter_map (λ (x : Act). asked_queue x.op x.reply) (b ∷ []))
-    (nothing : count_by (λ (x : Act). changed_nothing x.op x.reply) (a ∷ []) ≡ 0) (none : count_by (λ (x : Act). dequeued x.op x.reply) (a ∷ []) ≡ 0)
-    (fewer : sum_by (λ (x : Act). line_words x.op) (a ∷ []) ≤ sum_by (λ (x : Act). line_words x.op) (b ∷ [])) where
+-- an operation that looks at the same queue, and meets its end only if the other does
+module _ (acts : List Act) (a b : Act) (same : filter_map (λ (x : Act). looked_queue x.op x.reply) (a ∷ []) ≡ filter_map (λ (x : Act). looked_queue x.op x.reply) (b ∷ []))
+    (nothing : count_by (λ (x : Act). changed_nothing x.op x.reply) (a ∷ []) ≡ 0)
+    (fewer : one_if (met_end a.op a.reply) ≤ one_if (met_end b.op b.reply)) where
   less_reads : reads (acts ++ a ∷ []) ≤ reads (acts ++ b ∷ [])
   less_reads =
-      let asked : Act → Option ℕ = λ x. asked_queue x.op x.reply in
+      let looked : Act → Option ℕ = λ x. looked_queue x.op x.reply in
       let n = count-append (λ (x : Act). changed_nothing x.op x.reply) acts (a ∷ []) in
       let n' = count-append (λ (x : Act). changed_nothing x.op x.reply) acts (b ∷ []) in
-      let d = count-append (λ (x : Act). dequeued x.op x.reply) acts (a ∷ []) in
-      let d' = count-append (λ (x : Act). dequeued x.op x.reply) acts (b ∷ []) in
-      let l = sum_by-append (λ (x : Act). line_words x.op) acts (a ∷ []) in
-      let l' = sum_by-append (λ (x : Act). line_words x.op) acts (b ∷ []) in
-      let q = ap (different nat_eq) (filter_map-append asked acts (a ∷ []) ∙ ap (λ ys. filter_map asked acts ++ ys) same ∙ sym (filter_map-append asked acts (b ∷ []))) in
-      omega (arith, n, n', d, d', l, l', q, nothing, none, fewer)
+      let e = count-append (λ (x : Act). met_end x.op x.reply) acts (a ∷ []) in
+      let e' = count-append (λ (x : Act). met_end x.op x.reply) acts (b ∷ []) in
+      let o = sum_by-cons (λ (x : Act). one_if (met_end x.op x.reply)) a [] in
+      let o' = sum_by-cons (λ (x : Act). one_if (met_end x.op x.reply)) b [] in
+      let q = ap (different nat_eq) (filter_map-append looked acts (a ∷ []) ∙ ap (λ ys. filter_map looked acts ++ ys) same ∙ sym (filter_map-append looked acts (b ∷ []))) in
+      omega (arith, n, n', e, e', o, o', q, nothing, fewer)
 
 -- and so does the same operation
 pub asks_itself : (this op : Op) → is_of_map this ≡ false → op ≡ this → AsksLess op this
@@ -76,9 +76,23 @@ asks_itself this op other is = (
   λ acts s. subst (λ o. reads (acts ++ act_of o (answer s o) ∷ []) ≤ reads (acts ++ act_of this (answer s this) ∷ [])) (sym is) (omega arith),
 )
 
+-- a line of no more values meets the end only if the longer one does
+ends_less : (xs : List ℕ) (m n : ℕ) → m ≤ n → one_if (nat_lt (length (take m xs)) m) ≤ one_if (nat_lt (length (take n xs)) n)
+ends_less xs m n few =
+    let short = length-take m xs in
+    let long = length-take n xs in ⊎_elim
+    (λ less. let ends = ap one_if (lt-ltb (length (take n xs)) n (omega (arith, less, few, long))) in
+    let most = one_if_most (nat_lt (length (take m xs)) m) in omega (arith, ends, most))
+    (λ enough. let none = ap one_if (le-ltb (length (take m xs)) m (omega (arith, enough, short))) in omega (arith, none))
+    (cases_lt (length xs) m)
+  where
+    one_if_most : (b : Bool) → one_if b ≤ 1
+    one_if_most true = omega arith
+    one_if_most false = omega arith
+
 pub line_by_line : (queue m n : ℕ) (op : Op) → m ≤ n → op ≡ Line queue m → AsksLess op (Line queue n)
 line_by_line queue m n op few is = subst (λ o. AsksLess o (Line queue n)) (sym is)
-    (refl, λ acts s. less_reads acts (act_of (Line queue m) (answer s (Line queue m))) (act_of (Line queue n) (answer s (Line queue n))) refl refl refl (omega (arith, few)))
+    (refl, λ acts s. less_reads acts (act_of (Line queue m) (answer s (Line queue m))) (act_of (Line queue n) (answer s (Line queue n))) refl refl (ends_less (queue_at s queue) m n few))
 
 -- why an operation of a queue was refused by a limit: the transaction goes on from s, where the operation was begun, to u
 pub record QueueLimits (s u : TxnState) (cs : List Certificate) (queue : ℕ) (op : Op) (Asks : Op → Type 0) (why : Stop) : Type 0 where
@@ -86,15 +100,6 @@ pub record QueueLimits (s u : TxnState) (cs : List Certificate) (queue : ℕ) (o
   pub reads : why ≡ Limited Reads → BeganAlone s → ((o : Op) → Asks o → AsksLess o op) × ReadRefused store s u cs Asks
   pub writes : why ≡ Limited Writes → BeganAlone s → MoveRefused store s u cs queue ⊎ ChangeRefused store s u cs op
   pub nodes : why ≡ Limited Nodes → ((r : Reply) → added op r ≡ true) × (u.nodes ≡ s.nodes)
-
-one_node : (a : Act) → added a.op a.reply ≡ true → nodes (a ∷ []) ≡ 1
-one_node a is =
-    let sum = sum_by-cons (λ (x : Act). cond (added x.op x.reply) 1 0) a [] in
-    let one : cond (added a.op a.reply) 1 0 ≡ 1 = ap (λ b. cond b 1 0) is in
-    sum ∙ ap (λ n. n + 0) one
-
-one_added : (acts : List Act) (a : Act) → added a.op a.reply ≡ true → nodes (acts ++ a ∷ []) ≡ nodes acts + 1
-one_added acts a is = nodes-append acts (a ∷ []) ∙ ap (λ n. nodes acts + n) (one_node a is)
 
 module _ (p : PassState) (s u : TxnState) (of : IsPassOf s.field p) (fresh : IsFresh p) (tag : ℕ) (start : TxnState) (begins : BeginsTransaction p tag start)
     (later : IsLater start s) (cs : List Certificate) (counted : HasCountedCertificates s cs) (stored : s.hand.stored ≡ []) (none : s.stop ≡ None) (why : Stop) (cause : HasCause u why)
@@ -202,19 +207,8 @@ module _ (p : PassState) (s u : TxnState) (of : IsPassOf s.field p) (fresh : IsF
       (subst (λ l. All (Contains (words_of_changes l)) (with_word v cs was.going n.last.word)) changes
       (all_named v cs was.going n.last.word (n.last ∷ []) (here n.last.word []))))
 
-  -- a node
-  nodes_exceed : (op : Op) → ((r : Reply) → added op r ≡ true) → u.nodes ≡ s.nodes → why ≡ Limited Nodes → Exceeds s.field (certificate_acts cs) op
-  nodes_exceed op adds same is =
-      let enough = many_nodes p s u of fresh tag start begins later cs counted stored why cause nodes_are on is in
-      let then = nodes_then p s u of fresh tag start begins later cs counted stored why cause nodes_are on in
-      let counts = ap length same in
-      let placed = placed_are_counted (fresh_heap s.field p of fresh tag start s begins later refl cs counted.going) cs
-      (stand_from s.field p of fresh tag start s begins later refl cs counted.going) in
-      let state = run (start_of s.field) (certificate_acts cs) in
-      let more = one_added (certificate_acts cs) (act_of op (answer state op)) (adds (answer state op)) in
-      more_nodes s.field (certificate_acts cs) right op (omega (arith, enough, then, counts, placed, more))
-
   pub queue_exceeds : (queue : ℕ) (op : Op) (Asks : Op → Type 0) → QueueLimits s u cs queue op Asks why → IsCountLimit why → Exceeds s.field (certificate_acts cs) op
   queue_exceeds queue op Asks limits (inl is) = let r = limits.reads is alone in reads_exceed op Asks r.0 r.1 is
   queue_exceeds queue op Asks limits (inr (inl is)) = ⊎_elim (λ m. move_exceeds queue op m is) (λ n. change_exceeds op limits.other n is) (limits.writes is alone)
-  queue_exceeds queue op Asks limits (inr (inr is)) = let n = limits.nodes is in nodes_exceed op n.0 n.1 is
+  queue_exceeds queue op Asks limits (inr (inr is)) = let n = limits.nodes is in
+      new_node_exceeds p s u of fresh tag start begins later cs counted stored why cause nodes_are on op n.0 n.1 is

@@ -1,6 +1,6 @@
 //! The calls of a transaction of the store.
 
-use crate::on_maps::{get_in, insert_in, remove_in};
+use crate::on_maps::{get_in, insert_in, put_in, remove_in};
 use crate::on_queues::{dequeue_in, enqueue_in, front_in, line_in};
 use crate::txn::StoreTxn;
 use md_history::{Line, Stop, TxCalls};
@@ -37,6 +37,17 @@ impl<'a> TxCalls for StoreTxn<'a> {
 
     fn remove(&mut self, map: u32, key: u64) -> Result<Option<u64>, Stop> {
         remove_in(&mut self.txn, &mut self.broken, &self.before, map, key)
+    }
+
+    fn put(&mut self, map: u32, key: u64, value: u64) -> Result<Option<u64>, Stop> {
+        put_in(
+            &mut self.txn,
+            &mut self.broken,
+            &self.before,
+            map,
+            key,
+            value,
+        )
     }
 
     fn enqueue(&mut self, queue: u32, value: u64) -> Result<(), Stop> {

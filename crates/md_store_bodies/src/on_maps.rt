@@ -1,7 +1,7 @@
 //! The operations of a transaction on its maps, each from its begin to its end.
 
 ghost use Rattle.std.specs.Prelude.{◌≡◌, ◌<◌, ℕ, IfOk};
-ghost use Rattle.md_history.specs.declared.acts.Op.TheVariants.{Get, Insert, Remove};
+ghost use Rattle.md_history.specs.declared.acts.Op.TheVariants.{Get, Insert, Remove, Put};
 ghost use Rattle.md_history.specs.declared.acts.Reply.TheVariants.{Flag, Value};
 ghost use Rattle.md_history.specs.declared.stops.Limit.TheVariants.{Reads, Writes};
 ghost use Rattle.md_nbtc_law.specs.Calls.{AfterStop};
@@ -15,7 +15,7 @@ ghost use Rattle.md_store_bodies.specs.Running.{IsRunning, MakesCall, refusal_of
 
 use crate::broken::Broken;
 use md_history::{Op, Reply, Stop};
-use md_list::{get, insert, remove};
+use md_list::{get, insert, put, remove};
 use md_nbtc::Txn;
 use md_rule::Pass;
 use md_store_law::StoreTheory;
@@ -129,6 +129,39 @@ pub(crate) fn remove_in<'a>(
         Ok(value) => {
             txn.end_op(op, Reply::Value(value));
             Ok(value)
+        }
+        Err(stop) => {
+            *broken = Some(Broken { stop, op });
+            Err(stop)
+        }
+    }
+}
+
+pub(crate) fn put_in<'a>(
+    txn: &mut Txn<'a, StoreTheory>,
+    broken: &mut Option<Broken>,
+    before: &Snapshot<Pass<StoreTheory>>,
+    map: u32,
+    key: u64,
+    value: u64,
+) -> Result<Option<u64>, Stop>
+    requires running { IsRunning before.now.value (state txn.old) (refusal_of broken.old) }
+    requires map { map < (shape_in (state txn.old)).maps }
+    ensures pass { txn.new.pass.ghost_name ≡ txn.old.pass.ghost_name }
+    ensures makes { MakesCall before.now.value (Put map key value) Value (state txn.old) (state txn.new)
+        (refusal_of broken.old) (refusal_of broken.new) result }
+{
+    let _ = before;
+    if let Some(b) = broken {
+        return Err(b.stop);
+    }
+    let op = Op::Put { map, key, value };
+    txn.start_op();
+    let head = txn.shape().map_head(map, key);
+    match put(txn, head, key, value) {
+        Ok(old) => {
+            txn.end_op(op, Reply::Value(old));
+            Ok(old)
         }
         Err(stop) => {
             *broken = Some(Broken { stop, op });

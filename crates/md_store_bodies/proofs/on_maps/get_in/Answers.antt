@@ -1,4 +1,4 @@
-use Rattle.std.proofs.Common.{rules, ap, ℕ, Option, refl, Result, Ok, Err}
+use Rattle.std.proofs.Common.{ap, ℕ, Option, refl, Result, Ok, Err}
 use Rattle.md_history.specs.declared.stops.Stop.{Stop}
 use Rattle.md_history.specs.declared.acts.Op.TheVariants.{Get}
 use Rattle.md_history.specs.declared.acts.Reply.TheVariants.{Value}

@@ -1,4 +1,4 @@
-use Rattle.std.proofs.Common.{rules, ap, Bool, refl, Result, Ok, Err}
+use Rattle.std.proofs.Common.{ap, Bool, inr, refl, Result, Ok, Err}
 use Rattle.md_history.specs.declared.stops.Stop.{Stop}
 use Rattle.md_history.specs.declared.acts.Op.TheVariants.{Insert}
 use Rattle.md_history.specs.declared.acts.Reply.TheVariants.{Flag}
@@ -78,7 +78,7 @@ returns-in-Err-clause-makes c =
           c.map_head-head.result c.args.key (λ map. Insert map c.args.key c.args.value) c.args.map is_head c.in-Err.stop stops (record {
             reads = λ is. c.in-Err.ensures.no_read none (ap Err is);
             writes = λ is. c.in-Err.ensures.no_slot none (ap Err is);
-            nodes = λ is. (c.args.value, (λ map. refl), c.in-Err.ensures.no_node none (ap Err is));
+            nodes = λ is. inr (c.args.value, (λ map. refl), c.in-Err.ensures.no_node none (ap Err is));
           })
           );
       ok = tt;

@@ -1,4 +1,4 @@
-use Rattle.std.proofs.Common.{rules, refl}
+use Rattle.std.proofs.Common.{refl}
 use Rattle.md_history.specs.declared.acts.Op.TheVariants.{Front}
 use Rattle.md_history.specs.declared.acts.Reply.TheVariants.{Value}
 use Rattle.md_nbtc.specs.State.{state}

@@ -1,7 +1,8 @@
-use Rattle.std.proofs.Common.{rules, refl, ◌+◌}
+use Rattle.std.proofs.Common.{rules, refl}
 use Rattle.md_history.specs.declared.acts.Op.TheVariants.{Line as TheLine}
 use Rattle.md_history.specs.declared.acts.Reply.TheVariants.{Line as InLine}
 use Rattle.md_nbtc.specs.State.{state}
+use Rattle.md_queue.specs.Operations.{line_reads}
 use Rattle.md_queue.specs.Refusals.{AsksLine}
 use Rattle.md_store_bodies.proofs.QueueRefusals.{line_by_line}
 use Rattle.md_store_bodies.proofs.Runs.{IsStarted, answered_runs, counted, cs, may_end, none_stood, queue_begun, queue_ends, queue_runs, stands_not}
@@ -17,7 +18,7 @@ end_op-requires-clause-may c =
     let s = state c.start_op.new.self in
     let u = state c.line.new.tx in
     let start : IsStarted t s = record { on = c.start_op.ensures.on; is = c.start_op.ensures.begun } in
-    let ends = queue_ends c.args.before.now.value t s c.args.broken.now c.in_default.is c.requires.running start u 2 0 0 (TheLine c.args.queue c.args.n) (InLine c.in-Ok.line) refl c.in-Ok.ensures.answer in
+    let ends = queue_ends c.args.before.now.value t s c.args.broken.now c.in_default.is c.requires.running start u (line_reads c.args.n c.in-Ok.line) 0 0 (TheLine c.args.queue c.args.n) (InLine c.in-Ok.line) refl c.in-Ok.ensures.answer in
     may_end c.args.before.now.value t s c.args.broken.now c.in_default.is c.requires.running start u (TheLine c.args.queue c.args.n) (InLine c.in-Ok.line) ends
 
 pub returns-in-Ok-clause-makes : goal.returns-in-Ok-clause-makes
@@ -26,7 +27,7 @@ returns-in-Ok-clause-makes c =
     let s = state c.start_op.new.self in
     let u = state c.line.new.tx in
     let start : IsStarted t s = record { on = c.start_op.ensures.on; is = c.start_op.ensures.begun } in
-    let ends = queue_ends c.args.before.now.value t s c.args.broken.now c.in_default.is c.requires.running start u 2 0 0 (TheLine c.args.queue c.args.n) (InLine c.in-Ok.line) refl c.in-Ok.ensures.answer in
+    let ends = queue_ends c.args.before.now.value t s c.args.broken.now c.in_default.is c.requires.running start u (line_reads c.args.n c.in-Ok.line) 0 0 (TheLine c.args.queue c.args.n) (InLine c.in-Ok.line) refl c.in-Ok.ensures.answer in
     record {
       runs = answered_runs c.args.before.now.value t s c.args.broken.now c.in_default.is c.requires.running start u (state c.end_op.new.self)
           (TheLine c.args.queue c.args.n) (InLine c.in-Ok.line) ends (record { on = c.end_op.ensures.on; is = c.end_op.ensures.ended });
