@@ -28,11 +28,11 @@ bank-whole s is =
 
 -- a transfer makes seven calls at most
 calls-few : (t : Transfer) → MakesAtMost 7 (script_of t)
-calls-few t = (refl, λ from. (refl, λ to. each (new_balances t (value_in from) (value_in to))))
+calls-few t = λ from to. each (new_balances t (value_in from) (value_in to))
   where
     each : (o : _) → MakesAtMost 5 (decided t o)
     each (Err why) = tt
-    each (Ok new) = (refl, λ _. (refl, λ _. (refl, λ _. (refl, λ _. (refl, λ _. tt)))))
+    each (Ok new) = λ _ _ _ _ _. tt
 
 abbrev is_good : State → State → Type 0
 is_good opening s = IsBank opening

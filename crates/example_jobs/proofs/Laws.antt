@@ -106,16 +106,13 @@ module _ (opening s : State) (good : KeepsJobs opening s) (like : HaveSameNumber
 first-few : (worker left queue : ℕ) → MakesAtMost (suc left) (start_first worker left queue)
 unfolding start_first
 first-few worker zero queue = tt
-first-few worker (suc left) queue = (
-  refl,
-  λ r. by_option-each (MakesAtMost (suc left)) (value_in r) (start_first worker left (queue + 1)) _
-      (first-few worker left (queue + 1)) (λ job. (refl, λ _. tt)),
-)
+first-few worker (suc left) queue = λ r. by_option-each (MakesAtMost (suc left)) (value_in r) (start_first worker left (queue + 1)) _
+    (first-few worker left (queue + 1)) (λ job _. tt)
 
 move-few : (step : Step) (worker : ℕ) → MakesAtMost 5 (script_at step worker)
-move-few Take worker = (refl, λ r. by_option-each (MakesAtMost 4) (value_in r) _ _ (first-few worker PRIORITIES 0) (λ job. tt))
-move-few Finish worker = (refl, λ r. by_option-each (MakesAtMost 4) (value_in r) _ _ tt (λ job. (refl, λ _. tt)))
-move-few PutBack worker = (refl, λ r. by_option-each (MakesAtMost 4) (value_in r) _ _ tt (λ job. (refl, λ _. tt)))
+move-few Take worker = λ r. by_option-each (MakesAtMost 4) (value_in r) _ _ (first-few worker PRIORITIES 0) (λ job. tt)
+move-few Finish worker = λ r. by_option-each (MakesAtMost 4) (value_in r) _ _ tt (λ job _. tt)
+move-few PutBack worker = λ r. by_option-each (MakesAtMost 4) (value_in r) _ _ tt (λ job _. tt)
 
 pub moves-lawful : AreLawfulBodies (λ m acts r. Did (script_of m) acts r) (λ m acts. Follows (script_of m) acts)
     (λ m maps queues. FitsScheduler maps queues) KeepsJobs move_bounds 0

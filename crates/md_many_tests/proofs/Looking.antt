@@ -62,5 +62,5 @@ pub looks-lawful : {B : Type 0} (number : B → ℕ)
     → AreLawfulBodies (λ b acts r. Did (look (number b)) acts r) (λ b acts. Follows (look (number b)) acts)
     (λ b maps queues. 0 < queues) (λ opening s. 0 < length opening.queues) (bounds_of_calls 1) 0
 looks-lawful number = scripts-lawful (λ b. look (number b)) (λ b maps queues. 0 < queues)
-    (λ opening s. 0 < length opening.queues) 1 0 (λ b. (refl, λ _. tt))
+    (λ opening s. 0 < length opening.queues) 1 0 (λ b _. tt)
     (λ b opening s same some. record { good = some; need = omega arith }) (λ b opening some. some)

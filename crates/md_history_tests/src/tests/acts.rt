@@ -26,7 +26,7 @@ fn counts()
         ∷ act_of (op.Front 0) (reply.Value None)
         ∷ act_of (op.Line 0 3) (reply.Line (line_of []))
         ∷ act_of (op.Enqueue 1 8) reply.Nothing ∷ []
-        in (reads acts ≡ 9) × (writes acts ≡ 13) × (nodes acts ≡ 4) }
+        in (reads acts ≡ 5) × (writes acts ≡ 13) × (nodes acts ≡ 4) }
 {}
 
 #[test]

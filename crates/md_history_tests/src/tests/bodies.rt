@@ -21,7 +21,7 @@ struct EachCall {
 
 impl Body for EachCall {
     ghost use Rattle.std.specs.Prelude.{◌<◌, None};
-    ghost use Rattle.md_history.specs.declared.acts.Op.TheVariants.{Get, Insert, Remove, Enqueue};
+    ghost use Rattle.md_history.specs.declared.acts.Op.TheVariants.{Get, Insert, Remove, Put, Enqueue};
     ghost use Rattle.md_history.specs.declared.acts.Op.TheVariants.{Dequeue, Front};
     ghost use Rattle.md_history.specs.declared.acts.Reply.TheVariants.{Value, Flag, Nothing, Line};
     ghost use Rattle.md_history.specs.Script.{Did, Follows, call, done};
@@ -30,14 +30,16 @@ impl Body for EachCall {
 
     ghost did = { λ b acts r. Did
         (call (Insert 0 b.key b.value) (λ _. call (Get 0 b.key) (λ _. call (Remove 0 9) (λ _.
-        call (Enqueue 0 b.value) (λ _. call (Front 0) (λ _. call (Dequeue 0) (λ r.
-        done (elim r [ Value v ↦ v | Flag b ↦ None | Nothing ↦ None | Line l ↦ None ]))))))))
+        call (Put 0 b.key b.value) (λ _. call (Enqueue 0 b.value) (λ _. call (Front 0) (λ _.
+        call (Dequeue 0) (λ r.
+        done (elim r [ Value v ↦ v | Flag b ↦ None | Nothing ↦ None | Line l ↦ None ])))))))))
         acts r };
 
     ghost makes = { λ b acts. Follows
         (call (Insert 0 b.key b.value) (λ _. call (Get 0 b.key) (λ _. call (Remove 0 9) (λ _.
-        call (Enqueue 0 b.value) (λ _. call (Front 0) (λ _. call (Dequeue 0) (λ r.
-        done (elim r [ Value v ↦ v | Flag b ↦ None | Nothing ↦ None | Line l ↦ None ]))))))))
+        call (Put 0 b.key b.value) (λ _. call (Enqueue 0 b.value) (λ _. call (Front 0) (λ _.
+        call (Dequeue 0) (λ r.
+        done (elim r [ Value v ↦ v | Flag b ↦ None | Nothing ↦ None | Line l ↦ None ])))))))))
         acts };
 
     ghost fits = { λ b maps queues. (0 < maps) × (0 < queues) };
@@ -46,6 +48,7 @@ impl Body for EachCall {
         t.insert(0, self.key, self.value)?;
         t.get(0, self.key)?;
         t.remove(0, 9)?;
+        t.put(0, self.key, self.value)?;
         t.enqueue(0, self.value)?;
         t.front(0)?;
         t.dequeue(0)
@@ -55,7 +58,7 @@ impl Body for EachCall {
 }
 
 // The acts of that body, with what was answered.
-fn acts_of(body: EachCall, absent: bool, found: u64, removed: Option<u64>, first: u64) -> [Act; 6] {
+fn acts_of(body: EachCall, absent: bool, found: u64, removed: Option<u64>, first: u64) -> [Act; 7] {
     let EachCall { key, value } = body;
     [
         Act {
@@ -69,6 +72,10 @@ fn acts_of(body: EachCall, absent: bool, found: u64, removed: Option<u64>, first
         Act {
             op: Op::Remove { map: 0, key: 9 },
             reply: Reply::Value(removed),
+        },
+        Act {
+            op: Op::Put { map: 0, key, value },
+            reply: Reply::Value(Some(found)),
         },
         Act {
             op: Op::Enqueue { queue: 0, value },
@@ -145,7 +152,7 @@ fn a_body_runs_twice(rt: HostRuntime) {
         &rt,
         &contents,
         0,
-        Some([Some(1), None, Some(6), None, None]),
+        Some([Some(1), None, Some(7), None, None]),
     );
     queue_is(
         &rt,
