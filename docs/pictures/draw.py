@@ -21,7 +21,7 @@ COLOURS = {"program": "#dce9f7", "contract": "#fbe8c8", "code": "#ddf0dd", "law"
 # `|` between them. A line without a family is a band between two families.
 LAYERS = """
 The program|program: medley, md_program = the program and its run|program: md_program_edge = words, input and output|program: md_program_play = order files over a store
-The order book|program: md_book = commands and the book|program: md_match = matching orders|program: md_orders = order files|program: md_report, md_report_replies = replies and reports|program: md_rounds = the book's lines
+The order book|program: md_book = commands and the book|program: md_match = matching orders|program: md_orders = order files|program: md_report, md_report_replies = replies and reports|program: md_rounds, md_feed_lines = the book's lines
 The library's entry|program: medley_transactions = what a program names|program: example_bank, example_bank_day = transfers|program: example_jobs, example_jobs_shift = jobs and workers
 Callers|program: md_many = lines of callers in threads, over any engine|program: md_many_attempts = the attempts of one caller
 |contract: the trait Engine of md_history = all that the families above know of a store

@@ -14,3 +14,4 @@ pub mod InSegments
 pub mod Renamed
 pub mod Joined
 pub mod Halves
+pub mod MadeCommands

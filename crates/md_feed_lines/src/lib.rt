@@ -1,0 +1,16 @@
+//! Commands that are made one at a time, and fed to callers over channels while these play them.
+#![tactic(auto)]
+
+mod channel;
+mod fed;
+mod feeder;
+mod hand;
+mod laws;
+mod lines;
+mod making;
+mod plan;
+
+pub use feeder::{Feeder, open_feed};
+pub use laws::plan_laws;
+pub use lines::FeedLines;
+pub use plan::Plan;
