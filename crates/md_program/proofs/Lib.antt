@@ -4,3 +4,4 @@ pub mod Unread
 pub mod Stopped
 pub mod Asked
 pub mod Ran
+pub mod Kept

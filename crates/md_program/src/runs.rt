@@ -135,8 +135,8 @@ where
     }
 }
 
-/// Ends a run that has no report or summary: it writes the line of the status (`tell` of md_program_edge).
-/// The run has this status and no fronts.
+/// Ends a run that has no report or summary: it writes the line of the status (`tell` of
+/// md_program_edge). The run has this status and no fronts.
 pub fn stop<O: Sink>(alloc: Global, output: &mut O, status: Status) -> Run
     ensures status { result.status ≡ status }
     ensures alone { ToldAlone O.takes O.holds O.faults output.old output.new
@@ -189,10 +189,10 @@ where
 /// for each caller, and writes the report or the summary.
 ///
 /// It reads the words first (`read_options`). Without `--make` it reads the input to its end
-/// (`read_all` of md_program_edge), reads the records as scripts (`read_orders_in_threads` of md_orders)
-/// while it opens the store, plays them, and writes the report: each reply, and then the book. With
-/// `--make` it makes scripts (`make` of md_orders), plays them, and writes the summary, which is one
-/// line. It then reads no input.
+/// (`read_all` of md_program_edge), reads the records as scripts (`read_orders_in_threads` of
+/// md_orders) while it opens the store, plays them, and writes the report: each reply, and then the
+/// book. With `--make` it makes scripts (`make` of md_orders), plays them, and writes the summary,
+/// which is one line. It then reads no input.
 ///
 /// Whatever the threads do, the replies and the book are those of one thread that runs the
 /// committed commands in the order in which they became ready. They are all lines, each once, and
@@ -204,7 +204,7 @@ where
 /// fails and the input is good.
 ///
 /// `gate` is called before each attempt at a line, and after the attempt that committed it. The
-/// clause `gate` says so of each committed line: `after` needs what only `before` gives.
+/// clause `gate` says of each committed line that both calls were made. A test shows when.
 pub fn run<R, I, O, G>(
     rt: &R,
     alloc: Global,
