@@ -1,15 +1,15 @@
 -- Bodies that look at a queue and leave the store as it is.
-use Rattle.std.specs.Prelude.{◌≡◌, ◌<◌, ℕ, Option, Some, None, IsSome, IfSome, List, [], ◌∷◌, length, refl}
+use Rattle.std.specs.Prelude.{◌≡◌, ◌<◌, ◌≤◌, ℕ, Bool, true, false, cond, Option, Some, None, IsSome, IfSome, List, [], ◌∷◌, length, refl}
 use Rattle.std.proofs.Common.{sym, ap, subst, ◌∙◌, arith}
 use Rattle.md_history.specs.declared.acts.Op.TheVariants.{Front}
 use Rattle.md_history.specs.declared.acts.Act.{Act}
 use Rattle.md_history.specs.State.{State, run, after, empty_state}
-use Rattle.md_history.specs.Counts.{Bounds, AreFew, IsSmall, bounds_of_calls}
+use Rattle.md_history.specs.Counts.{Bounds, AreFew, IsSmall, bounds_of_calls, met_end}
 use Rattle.md_history.specs.Script.{Script, Did, Follows, call, done}
 use Rattle.md_many.specs.Laws.{AreLawful, AreLawfulBodies}
 use Rattle.md_many.proofs.Bodies.{scripts-lawful}
 
--- a look reads two words
+-- a look reads two words at most
 abbrev pub looking : Bounds
 looking = record { reads = 2; writes = 0; nodes = 0 }
 
@@ -21,11 +21,16 @@ look-leaves n [] s follows = refl
 look-leaves n (a ∷ []) s follows = ap (after s) follows.0
 look-leaves n (a ∷ b ∷ acts) s follows = absurd follows.1
 
+-- a flag counts one at most
+one-at-most : (b : Bool) → cond b 1 0 ≤ 1
+one-at-most true = omega arith
+one-at-most false = omega arith
+
 look-few : (n : ℕ) (acts : List Act) → Follows (look n) acts → AreFew looking acts
 look-few n [] follows = record { reads = omega arith; writes = omega arith; nodes = omega arith }
 look-few n (a ∷ []) follows =
     subst (λ op. AreFew looking (record { op = op; reply = a.reply } ∷ [])) (sym follows.0)
-    (record { reads = omega arith; writes = omega arith; nodes = omega arith })
+    (record { reads = omega (arith, one-at-most (met_end (Front 0) a.reply)); writes = omega arith; nodes = omega arith })
 look-few n (a ∷ b ∷ acts) follows = absurd follows.1
 
 -- their laws
