@@ -80,6 +80,10 @@ within-each line_count before (n ∷ done) each = (
       subst (λ c. slice_index_or done i 0 ≤ line_count c) next (each (suc i) (omega arith))),
 )
 
+-- what a list has at the next caller
+pub at-next : (done : List ℕ) (i : ℕ) → at_caller 0 done (i + 1) ≡ slice_index_or done i 0
+at-next done i = let next : suc i ≡ i + 1 = omega arith in ap (at_caller 0 done) (sym next)
+
 pub within-at : (line_count : ℕ → ℕ) (before : ℕ) (done : List ℕ) → AreWithin line_count before done
     → (i : ℕ) → i < length done → slice_index_or done i 0 ≤ line_count (before + 1 + i)
 within-at line_count before [] within i inside = absurd (omega arith)

@@ -101,6 +101,11 @@ pub record HasLineLeft (line_count : ℕ → ℕ) (done : List ℕ) (caller : �
   pub there : caller ≤ length done
   pub left : at_caller 0 done caller < line_count caller
 
+-- there are several callers, and none after this one has a line left
+abbrev pub IsLone : (line_count : ℕ → ℕ) (done : List ℕ) (caller : ℕ) → Type 0
+IsLone line_count done caller =
+    (1 < length done) × ((other : ℕ) → caller < other → other ≤ length done → at_caller 0 done other ≡ line_count other)
+
 -- the callers are the same, and no more lines are left
 pub record HasNoMoreLeft (line_count : ℕ → ℕ) (old new : List ℕ) : Type 0 where
   pub callers : length new ≡ length old

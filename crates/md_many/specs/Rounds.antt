@@ -1,7 +1,9 @@
 -- Rounds: each caller plays a turn on a lane of its own, side by side.
-use Rattle.std.specs.Prelude.{◌≡◌, ◌<◌, ◌≤◌, ◌+◌, ◌^◌, ◌/◌, ◌==◌, ℕ, List, [], ◌∷◌, ◌++◌, length, map, filter}
+use Rattle.std.specs.Prelude.{◌≡◌, ◌<◌, ◌≤◌, ◌+◌, ◌^◌, ◌/◌, ◌==◌, ℕ, Bool, true, false, List, [], ◌∷◌, ◌++◌, length, map, filter}
 use Rattle.md_history.specs.declared.entries.Entry.{Entry}
 use Rattle.md_history.specs.Front.{Front, IsPrefix, AllStay}
+use Rattle.md_many_attempts.specs.declared.attempts.End.{End}
+use Rattle.md_many_attempts.specs.declared.attempts.End.TheVariants.{Lines, Attempts, Limit as Limited, Conflicts}
 use Rattle.md_many_attempts.specs.declared.batches.Played.{Played}
 use Rattle.md_many_attempts.specs.Lines.{AreLines}
 use Rattle.md_many_attempts.specs.Meaning.{Meaning}
@@ -41,6 +43,13 @@ pub record PlaysTurns {B R : Type 0} (m : Meaning B R) (told : ℕ → ℕ → T
   pub seen : IsPrefix old.seen new.seen
   pub known : AllStay old.known new.known
   pub turns : AreTurns m told old new before done old.lanes replies
+
+-- a turn that ended so met something that the engine has no more of
+abbrev pub is_used_up : End → Bool
+is_used_up Lines = false
+is_used_up Conflicts = false
+is_used_up Attempts = true
+is_used_up (Limited limit) = true
 
 -- each of these callers has so many lines at least
 abbrev pub AreWithin : (ℕ → ℕ) → ℕ → List ℕ → Type 0

@@ -1,7 +1,8 @@
 //! Rounds of callers, over any engine and any lines.
 
-ghost use Rattle.std.specs.Prelude.{◌≡◌, ◌<◌, ◌≤◌, ◌+◌, ◌^◌, [], ℕ, length, map, replicate, true};
+ghost use Rattle.std.specs.Prelude.{◌≡◌, ◌<◌, ◌≤◌, ◌+◌, ◌^◌, ◌↔◌, [], ℕ, length, map, replicate, true};
 ghost use Rattle.std.specs.Prelude.{false, IfOk, IfSome, IfNone, OnOk};
+ghost use Rattle.std.specs.List.{list_any};
 ghost use Rattle.md_history.specs.Engine.{empty_front};
 ghost use Rattle.md_many_attempts.specs.ByCaller.{at_caller, lines_of};
 ghost use Rattle.md_many_attempts.specs.Meaning.{meaning_of};
@@ -9,8 +10,8 @@ ghost use Rattle.md_many_attempts.specs.Turns.{CanPlayTurn, HoldsAsBefore, Plays
 ghost use Rattle.md_many.specs.Tags.{IsInterleaving};
 ghost use Rattle.md_many.specs.Laws.{AreLawful, CanKeepAll, law_of};
 ghost use Rattle.md_many.specs.Plan.{plan_of};
-ghost use Rattle.md_many.specs.Rounds.{AreWithin};
-ghost use Rattle.md_many.specs.Course.{CanPlay, IsInCourse, HasLineLeft, HasNoMoreLeft};
+ghost use Rattle.md_many.specs.Rounds.{AreWithin, is_used_up};
+ghost use Rattle.md_many.specs.Course.{CanPlay, IsInCourse, IsLone, HasLineLeft, HasNoMoreLeft};
 ghost use Rattle.md_many.specs.Closed.{ClosesTo, HoldsAllLanes};
 ghost use Rattle.md_many.specs.Played.{EachLineOnce, IsToldOfEach, committed_of, tags_of};
 ghost use Rattle.md_many.specs.Played.{fronts_and_left, left_after, rounds_left};
@@ -49,9 +50,11 @@ fn next_caller<L: Lines>(lines: &L, done: &[u32]) -> Option<u32>
     None
 }
 
-// Whether of several callers no other one has a line left: this one is the lowest that has.
+// Whether of several callers no later one has a line left: this one is the lowest that has.
 fn is_lone<L: Lines>(lines: &L, done: &[u32], caller: u32) -> bool
-    requires { length done.now < 2 ^ 32 }
+    requires few { length done.now < 2 ^ 32 }
+    requires within { AreWithin (L.line_count lines.now) 0 done.now }
+    ensures { (result ≡ true) ↔ IsLone (L.line_count lines.now) done.now caller }
 {
     let callers = done.len() as u32;
     'others: for before in caller..callers {
@@ -187,11 +190,20 @@ fn play_first<R, E: Engine, L: LawfulLines, G: Gate, K: Keeper<<L::B as Body>::R
 }
 
 // Whether a turn ended by something that the engine has no more of.
-fn wears<T>(turns: &[Played<T>]) -> bool {
-    turns.iter().any(|turn| match turn.end {
+fn uses_up(end: End) -> bool
+    ensures { result ≡ is_used_up end }
+{
+    match end {
         End::Lines | End::Conflicts => false,
         End::Attempts | End::Limit(_) => true,
-    })
+    }
+}
+
+// Whether one of several turns did.
+fn wears<T>(turns: &[Played<T>]) -> bool
+    ensures { result ≡ list_any (λ turn. is_used_up turn.end) turns.now }
+{
+    turns.iter().any(|turn| uses_up(turn.end))
 }
 
 // All callers play a turn side by side, each on a lane of its own.

@@ -1,12 +1,9 @@
-use Rattle.std.proofs.Common.{◌≡◌, ◌≤◌, ◌+◌, ℕ, List, suc, inl, inr, arith, ap, subst, sym, ◌∙◌}
+use Rattle.std.proofs.Common.{◌≡◌, ◌≤◌, ◌+◌, inl, inr, arith, ap, subst, sym, ◌∙◌}
 use Rattle.std.specs.Prelude.{slice_index_or}
 use Rattle.std.proofs.lemmas.Bool.{cases_eq}
 use Rattle.md_many_attempts.specs.ByCaller.{at_caller}
-use Rattle.md_many.proofs.Coursing.{within-at}
+use Rattle.md_many.proofs.Coursing.{at-next, within-at}
 use Rattle.md_many.proofs.rounds.next_caller.Goals as goal
-
-at-next : (done : List ℕ) (i : ℕ) → at_caller 0 done (i + 1) ≡ slice_index_or done i 0
-at-next done i = let next : suc i ≡ i + 1 = omega arith in ap (at_caller 0 done) (sym next)
 
 pub callers-preserved : goal.callers-preserved
 callers-preserved g c =
