@@ -83,7 +83,11 @@ fn a_put_aborts_a_put(rt: HostRuntime) {
         tag: 1,
         before: &[put(1, 20)],
         between: Some((put(1, 30), Reply::Value(Some(10)))),
-        words: &[(2, content(38, 2)), (72, content(39, 4)), (123, content(0, 2))],
+        words: &[
+            (2, content(38, 2)),
+            (72, content(39, 4)),
+            (123, content(0, 2)),
+        ],
         after: &[],
         way: Way::Commit,
     };
@@ -104,13 +108,21 @@ fn a_put_follows_a_put(rt: HostRuntime) {
         tag: 1,
         before: &[],
         between: Some((put(1, 20), Reply::Value(Some(10)))),
-        words: &[(2, content(38, 2)), (72, content(39, 2)), (123, content(0, 2))],
+        words: &[
+            (2, content(38, 2)),
+            (72, content(39, 2)),
+            (123, content(0, 2)),
+        ],
         after: &[put(1, 30)],
         way: Way::Commit,
     };
     let want = commits(&[TWENTY]);
     overlap(&rt, &store, &mut a.pass, &mut b.pass, &script, want);
-    let words = [(2, content(6, 4)), (75, content(0, 2)), (123, content(7, 4))];
+    let words = [
+        (2, content(6, 4)),
+        (75, content(0, 2)),
+        (123, content(7, 4)),
+    ];
     show(&rt, &store, &mut b.pass, &words);
     ends_with(&rt, store, a, b, &[(1, 30), (3, 30)]);
 }
@@ -128,7 +140,11 @@ fn a_put_commits_a_put(rt: HostRuntime) {
     let end = all(&rt, &store, &mut a.pass, &plan, &mut told);
     are_same(&rt, &told, end, commits(&[TEN]));
     are_told(&rt, &store, &mut b.pass, &[put(1, 30)], commits(&[TWENTY]));
-    let words = [(2, content(38, 4)), (72, content(7, 2)), (75, content(39, 4))];
+    let words = [
+        (2, content(38, 4)),
+        (72, content(7, 2)),
+        (75, content(39, 4)),
+    ];
     show(&rt, &store, &mut b.pass, &words);
     ends_with(&rt, store, a, b, &[(1, 30), (3, 30)]);
 }
