@@ -14,12 +14,12 @@ use Rattle.md_nbtc_law.specs.State.{TxnState}
 use Rattle.md_rule.specs.Views.{FieldView}
 use Rattle.md_store_law.specs.Store.{store}
 
--- the map or the queue of an operation exists, and a line has one to twelve values. Lists have no Put
+-- the map or the queue of an operation exists, and a line has one to twelve values
 abbrev pub Exists : Shape → Op → Type 0
 Exists s (Get map key) = map < s.maps
 Exists s (Insert map key value) = map < s.maps
 Exists s (Remove map key) = map < s.maps
-Exists s (Put map key value) = ⊥
+Exists s (Put map key value) = map < s.maps
 Exists s (Enqueue queue value) = queue < s.queues
 Exists s (Dequeue queue) = queue < s.queues
 Exists s (Front queue) = queue < s.queues

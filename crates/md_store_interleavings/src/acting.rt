@@ -31,9 +31,8 @@ pub fn begin<'a>(
 
 /// Makes an operation from its begin to its end, and returns its reply. `stop` has the stop of the
 /// transaction, if it has stopped. The call sets it if the operation is stopped. If it is set
-/// before, the call returns the same stop and does nothing. If there is no such map or queue, if a
-/// line has a length that isn't from 1 to 12, or if the operation is a `Put`, which lists don't
-/// have, it returns `Stop::NoMemory` and does nothing.
+/// before, the call returns the same stop and does nothing. If there is no such map or queue, or if
+/// a line has a length that isn't from 1 to 12, it returns `Stop::NoMemory` and does nothing.
 pub fn act<'a>(
     txn: &mut Txn<'a, StoreTheory>,
     stop: &mut Option<Stop>,
@@ -63,7 +62,7 @@ pub fn act<'a>(
     }
 }
 
-// Whether the map or the queue of an operation exists. Lists have no `Put`.
+// Whether the map or the queue of an operation exists.
 fn exists(shape: &Shape, op: Op) -> bool
     ensures { IsTrue result → Exists shape.now op }
 {
@@ -71,7 +70,7 @@ fn exists(shape: &Shape, op: Op) -> bool
         Op::Get { map, .. } => map < shape.maps,
         Op::Insert { map, .. } => map < shape.maps,
         Op::Remove { map, .. } => map < shape.maps,
-        Op::Put { .. } => false,
+        Op::Put { map, .. } => map < shape.maps,
         Op::Enqueue { queue, .. } => queue < shape.queues,
         Op::Dequeue { queue } => queue < shape.queues,
         Op::Front { queue } => queue < shape.queues,

@@ -1,7 +1,8 @@
 //! The calls of the operations that were begun.
 
 ghost use Rattle.std.specs.Prelude.{◌≡◌, ◌<◌, None};
-ghost use Rattle.md_history.specs.declared.acts.Op.TheVariants.{Get, Insert, Remove, Enqueue, Dequeue, Front, Line};
+ghost use Rattle.md_history.specs.declared.acts.Op.TheVariants.{Get, Insert, Remove, Put};
+ghost use Rattle.md_history.specs.declared.acts.Op.TheVariants.{Enqueue, Dequeue, Front, Line};
 ghost use Rattle.md_history.specs.Calls.{IsLineLength};
 ghost use Rattle.md_store_interleavings.specs.Acting.{Exists, HasBegun, Makes};
 ghost use Rattle.md_list.specs.Walking.{IsHeadOf};
@@ -9,7 +10,7 @@ ghost use Rattle.md_nbtc_law.specs.State.{shape_in};
 ghost use Rattle.md_nbtc.specs.State.{state};
 
 use md_history::{Op, Reply, Stop};
-use md_list::{get, insert, remove};
+use md_list::{get, insert, put, remove};
 use md_nbtc::Txn;
 use md_queue::{dequeue, enqueue, front, line};
 use md_store_law::StoreTheory;
@@ -25,7 +26,7 @@ pub(crate) fn made<'a>(txn: &mut Txn<'a, StoreTheory>, op: Op) -> Result<Reply, 
         Op::Get { map, key } => make_get(txn, map, key),
         Op::Insert { map, key, value } => make_insert(txn, map, key, value),
         Op::Remove { map, key } => make_remove(txn, map, key),
-        Op::Put { .. } => unreachable!(),
+        Op::Put { map, key, value } => make_put(txn, map, key, value),
         Op::Enqueue { queue, value } => make_enqueue(txn, queue, value),
         Op::Dequeue { queue } => make_dequeue(txn, queue),
         Op::Front { queue } => make_front(txn, queue),
@@ -81,6 +82,24 @@ fn make_remove<'a>(txn: &mut Txn<'a, StoreTheory>, map: u32, key: u64) -> Result
     let head = head_of(txn, map, key);
     match remove(txn, head, key) {
         Ok(value) => Ok(Reply::Value(value)),
+        Err(why) => Err(why),
+    }
+}
+
+fn make_put<'a>(
+    txn: &mut Txn<'a, StoreTheory>,
+    map: u32,
+    key: u64,
+    value: u64,
+) -> Result<Reply, Stop>
+    requires begun { HasBegun (state txn.old) }
+    requires map { map < (shape_in (state txn.old)).maps }
+    ensures pass { txn.new.pass.ghost_name ≡ txn.old.pass.ghost_name }
+    ensures makes { Makes (state txn.old) (state txn.new) (Put map key value) result }
+{
+    let head = head_of(txn, map, key);
+    match put(txn, head, key, value) {
+        Ok(old) => Ok(Reply::Value(old)),
         Err(why) => Err(why),
     }
 }

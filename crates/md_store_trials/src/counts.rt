@@ -21,9 +21,9 @@ fn add_one<T: TxCalls>(t: &mut T, key: u64) -> Result<(Option<u64>, Option<u64>)
     ensures err { IfErr result (HasStopped (T.stop t.new)) }
     ensures kept { T.kept t.new ≡ T.kept t.old }
 {
-    let value = t.remove(0, key)?;
+    let value = t.get(0, key)?;
     let copy = t.dequeue(0)?;
-    t.insert(0, key, value.unwrap_or(0).wrapping_add(1))?;
+    t.put(0, key, value.unwrap_or(0).wrapping_add(1))?;
     t.enqueue(0, copy.unwrap_or(0).wrapping_add(1))?;
     Ok((value, copy))
 }

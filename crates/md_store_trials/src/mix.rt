@@ -24,7 +24,7 @@ fn drawn(draw: u32) -> u32 {
     draw.wrapping_mul(1_103_515_245).wrapping_add(12_345)
 }
 
-// Makes a call on a map: of 8 draws, 3 are an insert, 3 a remove and 2 a get.
+// Makes a call on a map: of 8 draws, 2 are an insert, 2 a remove, 2 a put and 2 a get.
 fn call_map<T: TxCalls>(t: &mut T, draw: u32) -> Result<Reply, Stop>
     requires maps { 1 < T.maps (T.kept t.old) }
     ensures ok { IfOk result (λ _. T.stop t.new ≡ None) }
@@ -34,8 +34,9 @@ fn call_map<T: TxCalls>(t: &mut T, draw: u32) -> Result<Reply, Stop>
     let map = (draw >> 20) % 2;
     let key = ((draw >> 16) % 16) as u64 * 0x1111_1111_1111_1111;
     match (draw >> 28) % 8 {
-        0 | 1 | 2 => Ok(Reply::Flag(t.insert(map, key, draw as u64)?)),
-        3 | 4 | 5 => Ok(Reply::Value(t.remove(map, key)?)),
+        0 | 1 => Ok(Reply::Flag(t.insert(map, key, draw as u64)?)),
+        2 | 3 => Ok(Reply::Value(t.remove(map, key)?)),
+        4 | 5 => Ok(Reply::Value(t.put(map, key, draw as u64)?)),
         _ => Ok(Reply::Value(t.get(map, key)?)),
     }
 }

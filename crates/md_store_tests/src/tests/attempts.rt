@@ -14,7 +14,7 @@ struct EachCall {
 
 impl Body for EachCall {
     ghost use Rattle.std.specs.Prelude.{◌<◌, None};
-    ghost use Rattle.md_history.specs.declared.acts.Op.TheVariants.{Get, Insert, Remove, Enqueue};
+    ghost use Rattle.md_history.specs.declared.acts.Op.TheVariants.{Get, Insert, Remove, Put, Enqueue};
     ghost use Rattle.md_history.specs.declared.acts.Op.TheVariants.{Dequeue, Front};
     ghost use Rattle.md_history.specs.declared.acts.Reply.TheVariants.{Value, Flag, Nothing, Line};
     ghost use Rattle.md_history.specs.Script.{Did, Follows, call, done};
@@ -23,14 +23,16 @@ impl Body for EachCall {
 
     ghost did = { λ b acts r. Did
         (call (Insert 0 b.key b.value) (λ _. call (Get 0 b.key) (λ _. call (Remove 0 9) (λ _.
-        call (Enqueue 0 b.value) (λ _. call (Front 0) (λ _. call (Dequeue 0) (λ r.
-        done (elim r [ Value v ↦ v | Flag b ↦ None | Nothing ↦ None | Line l ↦ None ]))))))))
+        call (Put 0 b.key b.value) (λ _. call (Enqueue 0 b.value) (λ _. call (Front 0) (λ _.
+        call (Dequeue 0) (λ r.
+        done (elim r [ Value v ↦ v | Flag b ↦ None | Nothing ↦ None | Line l ↦ None ])))))))))
         acts r };
 
     ghost makes = { λ b acts. Follows
         (call (Insert 0 b.key b.value) (λ _. call (Get 0 b.key) (λ _. call (Remove 0 9) (λ _.
-        call (Enqueue 0 b.value) (λ _. call (Front 0) (λ _. call (Dequeue 0) (λ r.
-        done (elim r [ Value v ↦ v | Flag b ↦ None | Nothing ↦ None | Line l ↦ None ]))))))))
+        call (Put 0 b.key b.value) (λ _. call (Enqueue 0 b.value) (λ _. call (Front 0) (λ _.
+        call (Dequeue 0) (λ r.
+        done (elim r [ Value v ↦ v | Flag b ↦ None | Nothing ↦ None | Line l ↦ None ])))))))))
         acts };
 
     ghost fits = { λ b maps queues. (0 < maps) × (0 < queues) };
@@ -39,6 +41,7 @@ impl Body for EachCall {
         t.insert(0, self.key, self.value)?;
         t.get(0, self.key)?;
         t.remove(0, 9)?;
+        t.put(0, self.key, self.value)?;
         t.enqueue(0, self.value)?;
         t.front(0)?;
         t.dequeue(0)
@@ -101,7 +104,7 @@ fn a_body_runs_twice(rt: HostRuntime) {
         second,
         Attempt::Committed(Some(6)),
     );
-    gives_back(&rt, store, pass, &pair_and_value(&rt, 5, 6, 7));
+    gives_back(&rt, store, pass, &pair_and_value(&rt, 5, 7, 7));
 }
 
 #[test]

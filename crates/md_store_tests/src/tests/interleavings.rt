@@ -57,6 +57,7 @@ struct Wanted<'a> {
 mod at_random;
 mod limits;
 mod overlaps;
+mod puts;
 mod rows;
 mod stalled;
 
@@ -310,6 +311,10 @@ fn get(key: u64) -> Op {
 
 fn insert(key: u64, value: u64) -> Op {
     Op::Insert { map: 0, key, value }
+}
+
+fn put(key: u64, value: u64) -> Op {
+    Op::Put { map: 0, key, value }
 }
 
 fn remove(key: u64) -> Op {

@@ -86,13 +86,14 @@ impl World {
         let key = self.draw(KEYS);
         let map = self.draw(MAPS) as u32;
         let queue = self.draw(QUEUES) as u32;
-        match self.draw(20) {
+        match self.draw(23) {
             0..=4 => Op::Get { map, key },
             5..=8 => Op::Insert { map, key, value },
             9..=11 => Op::Remove { map, key },
-            12..=14 => Op::Enqueue { queue, value },
-            15..=17 => Op::Dequeue { queue },
-            18 => Op::Front { queue },
+            12..=14 => Op::Put { map, key, value },
+            15..=17 => Op::Enqueue { queue, value },
+            18..=20 => Op::Dequeue { queue },
+            21 => Op::Front { queue },
             _ => Op::Line {
                 queue,
                 n: 1 + self.draw(12) as u8,
