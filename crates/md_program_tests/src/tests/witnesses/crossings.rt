@@ -2,6 +2,7 @@
 
 use super::*;
 use crate::tests::same;
+use md_book::Command;
 use md_many::FreeGate;
 use md_program_play::play_on_store;
 use md_report::report;
@@ -36,7 +37,7 @@ fn callers_meet_between_their_lines(rt: HostRuntime) -> Result<(), Fail> {
 // another play, and whether the callers met.
 fn in_turn(
     alloc: Global,
-    scripts: &Scripts,
+    scripts: &Scripts<Command>,
     order: &[u32],
     want: &Replayed,
 ) -> Result<(bool, (bool, bool)), AllocError> {
@@ -50,7 +51,7 @@ fn in_turn(
 // and these callers met.
 fn expect_met<R: Abort + AllocGlobal>(
     rt: &R,
-    scripts: &Scripts,
+    scripts: &Scripts<Command>,
     order: &[u32],
     want: &Replayed,
     met: (bool, bool),
