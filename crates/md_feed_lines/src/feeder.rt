@@ -17,6 +17,7 @@ use std::alloc::{AllocError, Global};
 use std::sync::atomic::{AtomicBool, Ordering};
 use std::sync::{Mutex, Wait};
 use std::thread;
+use std::thread::Threads;
 
 // The most lines that a caller is sent before the others have their turn.
 const MOST_IN_A_ROW: u32 = 256;
@@ -177,4 +178,30 @@ pub fn open_feed<'a, R>(
         hands.push(Mutex::new(Hand::new(taking, making)))?;
     }
     Ok((FeedLines::new(rt, plan, hands), Feeder { feeds }))
+}
+
+/// Calls `play` in this thread while a feeder runs in another one. The feeder is stopped when
+/// `play` has returned. If no thread can be made for it, it is run after `play`, and sends nothing.
+pub fn feed_beside<R, T, F>(rt: &R, feeder: Feeder, play: F) -> T
+where
+    R: Threads + Wait + Sync,
+    F: FnOnce() -> T,
+    requires { F.pre play }
+    ensures { F.post play result }
+{
+    let stop = AtomicBool::new(false);
+    let flag = &stop;
+    let ((), played) = thread::join(
+        rt,
+        move || -> () { feeder.run(rt, flag) },
+        move || -> T
+            requires { F.pre play }
+            ensures { F.post play result }
+        {
+            let played = play();
+            flag.store(true, Ordering::SeqCst);
+            played
+        },
+    );
+    played
 }

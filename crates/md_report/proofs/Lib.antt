@@ -1,4 +1,4 @@
 pub mod PackedLines
 pub mod Texts
 pub mod SameSums
-pub mod Totals
+pub mod Totalling

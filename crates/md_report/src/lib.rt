@@ -6,4 +6,5 @@ mod sums;
 mod text;
 
 pub use in_threads::lines_in_threads;
-pub use text::{after_lines, report, summary};
+pub use sums::Totals;
+pub use text::{after_lines, left_open, report, summary, summary_of};

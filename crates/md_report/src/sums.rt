@@ -12,10 +12,10 @@ use md_report_replies::Replies;
 
 /// What lines placed, cancelled and filled in all.
 #[derive(Clone, Copy)]
-pub(crate) struct Totals {
-    pub(crate) placed: u128,
-    pub(crate) cancelled: u128,
-    pub(crate) filled: u128,
+pub struct Totals {
+    pub placed: u128,
+    pub cancelled: u128,
+    pub filled: u128,
 }
 
 impl Totals {

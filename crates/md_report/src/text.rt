@@ -12,12 +12,12 @@ ghost use Rattle.md_book.specs.declared.limits.TheConstants.{MAX_PARTS};
 ghost use Rattle.md_report_replies.specs.Rooms.{parts_in, reply_in};
 ghost use Rattle.md_report.specs.declared.text.TheConstants.{NAME, PART, PARTS, REPLY};
 ghost use Rattle.md_report.specs.declared.text.line_buffer.TheConstants.{SIZE, DIGITS};
-ghost use Rattle.md_report.specs.Summary.{summary_text, summary_text_of};
+ghost use Rattle.md_report.specs.Summary.{summary_text, summary_text_of, summary_line, open_at, open_at_of};
 ghost use Rattle.md_report.specs.Report.{name_text, part_text, filled_text, reply_text, answer_text, lines_text, callers_text_after, level_text, account_text, done_text, report_text, levels_text_of, accounts_text_of, after_replies_text_of, replies_text, report_text_of};
 ghost use Rattle.md_orders.specs.Scripts.{count_of};
 ghost use Rattle.md_report.specs.Sums.{HaveSameSums};
 
-use crate::sums::{all_totals, open_at, sum_at};
+use crate::sums::{Totals, all_totals, open_at, sum_at};
 use crate::text::line_buffer::{DIGITS, LineBuffer};
 use itoa::{Buffer, Integer};
 use md_book::{BOUGHT, DEPTHS, MAPS, MAX_ACCOUNT, MAX_PARTS, MAX_PRICE, Part, SOLD, Side};
@@ -390,10 +390,39 @@ pub fn summary(
     ensures book { IfOk result (λ text. (book : Book) → StandsFor contents.now book
         → text.items ≡ summary_text of.now replies.now.replies book) }
 {
-    let totals = all_totals(of, replies);
-    let left = open_at(contents, Side::Buy) + open_at(contents, Side::Sell);
+    summary_of(
+        alloc,
+        of.total(),
+        all_totals(of, replies),
+        left_open(contents),
+    )
+}
+
+/// What is left open in the book that the contents stand for, of both sides together. If they stand
+/// for no book, it is what the map of depths holds. The contents have at least the `MAPS` maps of a
+/// book. It looks up each of the `LEVELS` levels once.
+pub fn left_open(contents: &Contents) -> u128
+    requires { MAPS ≤ length contents.now.maps }
+    ensures left { result ≡ open_at_of Side.Buy contents.now + open_at_of Side.Sell contents.now }
+    ensures book { (book : Book) → StandsFor contents.now book
+        → result ≡ open_at Side.Buy book + open_at Side.Sell book }
+    ensures small { result ≤ 2 * (MAX_PRICE * 2 ^ 64) }
+{
+    open_at(contents, Side::Buy) + open_at(contents, Side::Sell)
+}
+
+/// The text of a summary, from how many commands there were, what they placed, cancelled and filled
+/// in all, and what is left open. `AllocError` if memory runs out.
+pub fn summary_of(
+    alloc: Global,
+    count: u32,
+    totals: Totals,
+    left: u128,
+) -> Result<Vec<u8>, AllocError>
+    ensures { IfOk result (λ text. text.items ≡ summary_line count totals left) }
+{
     let mut out = Vec::new(alloc);
-    labelled(&mut out, b"made ", of.total())?;
+    labelled(&mut out, b"made ", count)?;
     labelled(&mut out, b" placed ", totals.placed)?;
     labelled(&mut out, b" cancelled ", totals.cancelled)?;
     labelled(&mut out, b" filled ", totals.filled)?;

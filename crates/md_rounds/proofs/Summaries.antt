@@ -17,7 +17,7 @@ use Rattle.md_book.proofs.steps.Kills.{kill-either}
 use Rattle.md_orders.specs.Scripts.{at_line}
 use Rattle.md_report_replies.specs.Replies.{reply_at}
 use Rattle.md_report.specs.Summary.{quantity_placed, quantity_cancelled, quantity_filled, all_totals, open_at, sum_to}
-use Rattle.md_report.proofs.Totals.{all-totals-sum}
+use Rattle.md_report.proofs.Totalling.{all-totals-sum}
 use Rattle.md_many.specs.Played.{committed_of, tags_of}
 use Rattle.md_rounds.specs.OrderLines.{line_count_of, no-lines}
 use Rattle.md_rounds.specs.Replay.{commands_of, RepliedEach, IsPlayed}

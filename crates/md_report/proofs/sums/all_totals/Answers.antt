@@ -1,6 +1,6 @@
 use Rattle.std.proofs.Common.{◌∙◌, ◌+◌, ◌*◌, ◌^◌, ap, arith}
 use Rattle.md_report.specs.Summary.{script_totals, both_totals}
-use Rattle.md_report.proofs.Totals.{totals_none, totals_more, at_most_more}
+use Rattle.md_report.proofs.Totalling.{totals_none, totals_more, at_most_more}
 use Rattle.md_report.proofs.sums.all_totals.Goals as goal
 
 pub loop-before-init : goal.loop-before-init

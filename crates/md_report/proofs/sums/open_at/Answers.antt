@@ -2,7 +2,7 @@ use Rattle.std.proofs.Common.{◌∙◌, ◌+◌, ap, arith}
 use Rattle.md_book.specs.Book.{level_of}
 use Rattle.md_book.specs.declared.maps.TheConstants.{DEPTHS}
 use Rattle.md_report.specs.Report.{value_at}
-use Rattle.md_report.proofs.Totals.{sum_none, sum_more}
+use Rattle.md_report.proofs.Totalling.{sum_none, sum_more}
 use Rattle.md_report.proofs.sums.open_at.Goals as goal
 
 pub loop-before-init : goal.loop-before-init
