@@ -1,6 +1,7 @@
 //! Gates at which callers wait for one another.
 
 use md_many::Gate;
+use std::alloc::{AllocError, Global};
 use std::sync::atomic::{AtomicBool, Ordering};
 
 /// A gate at which callers wait for one another before the first lines that they play side by side,
@@ -65,17 +66,17 @@ impl Gate for Meeting {
     }
 }
 
-/// A gate at which callers 1 and 2 each wait, before their second line, until the other one comes
-/// to its second line too. So if they meet, each had played its first line before either played its
-/// second. A caller looks at most `turns` times for the other, and then goes on.
+/// A gate at which each caller waits, before its second line, until all others have come to their
+/// second lines too. So if a caller meets all others, each of them had played its first line before
+/// this caller played its second. A caller looks at most `turns` times for each of the others, and
+/// gives up at the first that doesn't come.
 #[derive(Drop)]
 pub struct Crossing {
-    one: Flag,
-    two: Flag,
+    flags: Vec<Flag>,
     turns: u32,
 }
 
-// Whether a caller came to its second line, and whether it met the other there.
+// Whether a caller came to its second line, and whether it met all others there.
 #[derive(Drop)]
 struct Flag {
     here: AtomicBool,
@@ -90,33 +91,46 @@ impl Flag {
         }
     }
 
-    // Comes, and waits for another.
-    fn meet(&self, other: &Flag, turns: u32) {
-        self.here.store(true, Ordering::SeqCst);
+    // Whether its caller comes within so many looks.
+    fn comes_within(&self, turns: u32) -> bool {
         for _ in 0..turns {
-            if other.here.load(Ordering::SeqCst) {
-                self.met.store(true, Ordering::SeqCst);
-                return;
+            if self.here.load(Ordering::SeqCst) {
+                return true;
             }
         }
+        false
     }
 }
 
 impl Crossing {
-    /// A gate at which a caller looks at most `turns` times for the other.
-    pub fn new(turns: u32) -> Crossing {
-        Crossing {
-            one: Flag::down(),
-            two: Flag::down(),
-            turns,
+    /// The gate of callers 1 to `callers`. `AllocError` if memory runs out.
+    pub fn of(alloc: Global, callers: u32, turns: u32) -> Result<Crossing, AllocError> {
+        let mut flags = Vec::with_capacity(alloc, callers as usize)?;
+        for _ in 0..callers {
+            flags.push(Flag::down())?;
         }
+        Ok(Crossing { flags, turns })
     }
 
-    /// Whether caller 1 met caller 2 within its turns, and whether caller 2 met caller 1.
-    pub fn met(&self) -> (bool, bool) {
-        let one = self.one.met.load(Ordering::SeqCst);
-        let two = self.two.met.load(Ordering::SeqCst);
-        (one, two)
+    /// How many callers met all others.
+    pub fn met(&self) -> u32 {
+        let mut met = 0u32;
+        for flag in &self.flags {
+            if flag.met.load(Ordering::SeqCst) {
+                met = met.saturating_add(1);
+            }
+        }
+        met
+    }
+
+    // Whether all callers come.
+    fn all_come(&self) -> bool {
+        for flag in &self.flags {
+            if !flag.comes_within(self.turns) {
+                return false;
+            }
+        }
+        true
     }
 }
 
@@ -126,10 +140,14 @@ impl Gate for Crossing {
     ghost after_called = { λ gate caller line. Unit {0} };
 
     fn before(&self, caller: u32, line: u32) {
-        match (caller, line) {
-            (1, 2) => self.one.meet(&self.two, self.turns),
-            (2, 2) => self.two.meet(&self.one, self.turns),
-            _ => {}
+        if line != 2 {
+            return;
+        }
+        if let Some(flag) = self.flags.get((caller as usize).saturating_sub(1)) {
+            flag.here.store(true, Ordering::SeqCst);
+            if self.all_come() {
+                flag.met.store(true, Ordering::SeqCst);
+            }
         }
     }
 

@@ -4,6 +4,7 @@ mod asked;
 mod bad;
 mod edge;
 mod making;
+mod meetings;
 mod played;
 mod rows;
 mod witnesses;

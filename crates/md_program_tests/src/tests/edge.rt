@@ -5,7 +5,7 @@ use crate::tests::{
     AMPLE, ORDER, REPORT, Streams, USAGE, compare, failing, same, sink_of, source_of, status_of,
 };
 use md_outside::{MemSink, MemSource, Sink, Source, StdSink, StdSource};
-use md_program::{Status, exit_of_program, run_program};
+use md_program::{Status, exit_of_program, exit_over, run_program};
 use std::alloc::{AllocError, AllocGlobal, Global};
 use std::env;
 use std::env::Args;
@@ -186,14 +186,22 @@ fn the_exit_is_that_of_the_run(rt: HostRuntime) {
     expect_exit(&rt, ORDER, failing(&[], 5, &[]), 5);
 }
 
+// Runs over a reader and a writer, and says nothing of it in a clause: the exit.
+fn exit_over_streams<R: AllocGlobal + Threads + Sync, I: Read + Drop, O: Write + Drop>(
+    rt: &R,
+    args: io::Result<Args>,
+    reader: I,
+    writer: O,
+) -> ExitCode {
+    exit_over(rt, rt.alloc(), args, reader, writer)
+}
+
 // The one word of a test's process is the test's name. So this drives the program on its real
 // words, which it doesn't accept, and on its real output.
 #[test]
 fn the_program_is_given_its_words(rt: HostRuntime) -> Result<(), Fail> {
     same(&rt, &env::args(&rt)?.len(), &2);
-    let mut input = StdSource::new(ORDER);
-    let mut output = StdSink::new(rt.stdout());
-    let code = exit_of(&rt, env::args(&rt), &mut input, &mut output);
+    let code = exit_over_streams(&rt, env::args(&rt), ORDER, rt.stdout());
     expect_number(&rt, code, 2);
     Ok(())
 }
