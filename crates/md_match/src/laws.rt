@@ -7,7 +7,10 @@ ghost use Rattle.md_match.specs.Stands.{StandsForMatch};
 ghost use Rattle.md_match.specs.Meets.{MatchesMeetTheBook, MatchesAreSmall, ContentsAreFew};
 ghost use Rattle.md_match.specs.Crossing.{StaysUncrossed, NeverCrossed};
 ghost use Rattle.md_match.specs.Days.{AreWorkedDays};
-ghost use Rattle.md_match.specs.Trading.{MatchRepliesSuit, MatchesAddUp};
+ghost use Rattle.md_match.specs.Limits.{LimitsOfMatching, SetHoldsMatches};
+ghost use Rattle.md_match.specs.Trading.{MatchRepliesSuit, MatchesAddUp, MatchLevelsAddUp};
+ghost use Rattle.md_match.specs.Trading.{MatchAccountsAddUp, EachMatchAccountAddsUp};
+ghost use Rattle.md_match.specs.Trading.{PartsAreOfOrders};
 
 use crate::maps::MATCH_MAPS;
 use md_book::LEVELS;
@@ -62,7 +65,39 @@ pub fn matches_add_up()
     ensures { MatchesAddUp }
 {}
 
-/// Three worked days of matching have the replies that are written beside them.
+/// At the end of a day of matching, at each level, the quantity that was placed is the sum of what
+/// was cancelled, what was taken and what is left.
+pub fn match_levels_add_up()
+    ensures { MatchLevelsAddUp }
+{}
+
+/// At the end of a day of matching, all accounts together bought the quantity that was taken, and
+/// sold as much.
+pub fn match_accounts_add_up()
+    ensures { MatchAccountsAddUp }
+{}
+
+/// At the end of a day of matching, each account bought what its buys took and what was taken from
+/// its buys that rested. It sold what its sells took and what was taken from its sells that rested.
+pub fn each_match_account_adds_up()
+    ensures { EachMatchAccountAddsUp }
+{}
+
+/// On a day of matching each part is of an order: a match of the day has its name, the other side
+/// and its very price.
+pub fn parts_are_of_orders()
+    ensures { PartsAreOfOrders }
+{}
+
+/// The limits of matching commands and of a matching book are these numbers. A transaction's sets
+/// hold all that a command reads and writes, and a field has room for the maps.
+pub fn matching_limits_hold()
+    ensures limits { LimitsOfMatching }
+    ensures set { SetHoldsMatches }
+{}
+
+/// Four worked days of matching have the replies that are written beside them. After the first, its
+/// accounts have bought and sold what is written there.
 pub fn worked_days()
     ensures { AreWorkedDays }
 {}

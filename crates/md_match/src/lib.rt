@@ -19,8 +19,10 @@ mod sweeping;
 
 pub use commands::{At, MatchCommand, MatchReply};
 pub use laws::{
-    empty_match_book_stands, match_contents_are_few, match_replies_suit, matches_add_up,
-    matches_are_small, matches_meet_the_book, matches_stay_uncrossed, never_crossed, worked_days,
+    each_match_account_adds_up, empty_match_book_stands, match_accounts_add_up,
+    match_contents_are_few, match_levels_add_up, match_replies_suit, matches_add_up,
+    matches_are_small, matches_meet_the_book, matches_stay_uncrossed, matching_limits_hold,
+    never_crossed, parts_are_of_orders, worked_days,
 };
 pub use limits::{MATCH_CONTENTS, MATCH_NODES, MATCH_ORDERS, MATCH_READS, MATCH_WRITES, MAX_LOOKS};
 pub use maps::{MATCH_MAPS, PRICE_BITS};

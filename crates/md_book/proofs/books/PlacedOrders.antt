@@ -12,7 +12,7 @@ use Rattle.md_book.specs.Trading.{names_placed, places_order}
 use Rattle.md_book.proofs.books.Lessened.{apart-flip}
 use Rattle.md_book.proofs.sums.Days.{PlaceKnows}
 
-or_false : (t : Bool) → (t || false) ≡ t
+pub or_false : (t : Bool) → (t || false) ≡ t
 or_false true = refl
 or_false false = refl
 

@@ -40,13 +40,13 @@ step-takes b (Depth side price) = refl
 step-takes b (Account account) = refl
 
 -- a trade's account, of either side, is one from 1 to 9,999
-buyer-in : (t : Trade) → IsAccount t.resting × IsAccount t.taker → IsAccount (buyer t)
+pub buyer-in : (t : Trade) → IsAccount t.resting × IsAccount t.taker → IsAccount (buyer t)
 buyer-in t is = elim t.side as (λ side. IsAccount (elim side [ Buy ↦ t.resting | Sell ↦ t.taker ])) [ Buy ↦ is.0 | Sell ↦ is.1 ]
 
-seller-in : (t : Trade) → IsAccount t.resting × IsAccount t.taker → IsAccount (seller t)
+pub seller-in : (t : Trade) → IsAccount t.resting × IsAccount t.taker → IsAccount (seller t)
 seller-in t is = elim t.side as (λ side. IsAccount (elim side [ Buy ↦ t.taker | Sell ↦ t.resting ])) [ Buy ↦ is.1 | Sell ↦ is.0 ]
 
-in-accounts : (of : Trade → ℕ) → ((t : Trade) → IsAccount t.resting × IsAccount t.taker → IsAccount (of t)) → (ts : List Trade) → AllByRecursion (λ t. IsAccount t.resting × IsAccount t.taker) ts → AllByRecursion (λ t. (1 ≤ of t) × (of t < 1 + MAX_ACCOUNT)) ts
+pub in-accounts : (of : Trade → ℕ) → ((t : Trade) → IsAccount t.resting × IsAccount t.taker → IsAccount (of t)) → (ts : List Trade) → AllByRecursion (λ t. IsAccount t.resting × IsAccount t.taker) ts → AllByRecursion (λ t. (1 ≤ of t) × (of t < 1 + MAX_ACCOUNT)) ts
 in-accounts of within [] all = tt
 in-accounts of within (t ∷ ts) all = let is = within t all.0 in ((is.low, omega (arith, is.high)), in-accounts of within ts all.1)
 

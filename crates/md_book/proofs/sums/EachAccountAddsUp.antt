@@ -23,21 +23,21 @@ use Rattle.md_book.proofs.sums.FillsAddUp.{sum-padded}
 use Rattle.md_book.proofs.sums.OrdersAddUp.{none_of}
 
 -- who deals at a side in a trade: the resting account at its own side, the taker at the other
-abbrev dealer : Side → Trade → ℕ
+abbrev pub dealer : Side → Trade → ℕ
 dealer side t = cond (is_side side t.side) t.resting t.taker
 
 -- what an account dealt in all at a side
-abbrev dealt_in : Side → ℕ → Book → ℕ
+abbrev pub dealt_in : Side → ℕ → Book → ℕ
 dealt_in side account b = sum_by (λ t. cond (dealer side t == account) t.taken 0) b.trades
 
-buyer-deals : (t : Trade) → buyer t ≡ dealer Buy t
+pub buyer-deals : (t : Trade) → buyer t ≡ dealer Buy t
 buyer-deals t = elim t.side as (λ s. elim s [ Buy ↦ t.resting | Sell ↦ t.taker ] ≡ cond (is_side Buy s) t.resting t.taker) [ Buy ↦ refl | Sell ↦ refl ]
 
-seller-deals : (t : Trade) → seller t ≡ dealer Sell t
+pub seller-deals : (t : Trade) → seller t ≡ dealer Sell t
 seller-deals t = elim t.side as (λ s. elim s [ Buy ↦ t.taker | Sell ↦ t.resting ] ≡ cond (is_side Sell s) t.resting t.taker) [ Buy ↦ refl | Sell ↦ refl ]
 
 -- a level tells its side
-same-side : (a b : Side) (p q : ℕ) → IsPrice p → IsPrice q → level_of a p ≡ level_of b q → a ≡ b
+pub same-side : (a b : Side) (p q : ℕ) → IsPrice p → IsPrice q → level_of a p ≡ level_of b q → a ≡ b
 same-side Buy Buy p q is is' e = refl
 same-side Buy Sell p q is is' e = absurd (omega (arith, is.low, is.high, is'.low, is'.high))
 same-side Sell Buy p q is is' e = absurd (omega (arith, is.low, is.high, is'.low, is'.high))
@@ -45,11 +45,11 @@ same-side Sell Sell p q is is' e = refl
 
 module _ (side : Side) (of : ℕ → Bool) (account : ℕ) where
   -- the name tells whether the order is the account's
-  abbrev Knows : Order → Type 0
+  abbrev pub Knows : Order → Type 0
   Knows o = IsPrice o.price × (of o.name ≡ (o.account == account))
 
   -- what it deals in, of parts at a side that a taker took
-  abbrev share : Side → ℕ → List Part → ℕ
+  abbrev pub share : Side → ℕ → List Part → ℕ
   share at taker parts = cond (is_side side at) (sum_by (λ p. cond (of p.name) p.taken 0) parts) (cond (taker == account) (sum_by (λ p. p.taken) parts) 0)
 
   share-none : (at : Side) (taker : ℕ) → share at taker [] ≡ 0
@@ -76,7 +76,7 @@ module _ (side : Side) (of : ℕ → Bool) (account : ℕ) where
       ]
 
   -- what it dealt in grows by its share of the parts
-  look-deals : (at : Side) (price taker : ℕ) → IsPrice price → (places : ℕ) (b : Book) (rest : ℕ) → AllByRecursion Knows b.orders
+  pub look-deals : (at : Side) (price taker : ℕ) → IsPrice price → (places : ℕ) (b : Book) (rest : ℕ) → AllByRecursion Knows b.orders
       → dealt_in side account (look (level_of at price) taker places b rest).book ≡ dealt_in side account b + share at taker (look (level_of at price) taker places b rest).parts
   look-deals at price taker priced = look-relates (level_of at price) taker (λ b rest l. AllByRecursion Knows b.orders → dealt_in side account l.book ≡ dealt_in side account b + share at taker l.parts) (record {
     ends = λ b rest knows. omega (arith, share-none at taker);

@@ -19,7 +19,7 @@ use Rattle.md_book.proofs.sums.OrdersAddUp.{none_of, orders-add-up}
 use Rattle.md_book.proofs.sums.DayAddsUp.{both_written}
 
 -- a test of names that tells whether their orders are of the level
-abbrev Tells : (ℕ → Bool) → ℕ → ℕ → ℕ → Type 0
+abbrev pub Tells : (ℕ → Bool) → ℕ → ℕ → ℕ → Type 0
 Tells of level name at = of name ≡ (at == level)
 
 module _ (of : ℕ → Bool) (level : ℕ) where
@@ -58,7 +58,7 @@ module _ (of : ℕ → Bool) (level : ℕ) where
   each-left (o ∷ os) known = (ap (λ b. cond b o.left 0) (sym known.0), each-left os known.1)
 
   -- what those orders have left is the level's depth
-  left-depth : (b : Book) → AllByRecursion (λ o. Tells of level o.name (level_of o.side o.price)) b.orders → depth b level ≡ left_among of b
+  pub left-depth : (b : Book) → AllByRecursion (λ o. Tells of level o.name (level_of o.side o.price)) b.orders → depth b level ≡ left_among of b
   left-depth b known =
       sum_by-filter (λ o. o.left) (λ o. level_of o.side o.price == level) b.orders
       ∙ sum_by-agree (λ o. cond (level_of o.side o.price == level) o.left 0) (λ o. cond (of o.name) o.left 0) b.orders (each-left b.orders known)

@@ -2,11 +2,23 @@
 use Rattle.std.proofs.Common.{refl}
 use Rattle.md_book.specs.Book.{look}
 use Rattle.md_match.specs.Matching.{sweep}
-use Rattle.md_match.specs.Days.{TenLines, FiveOrders, DeadPlaces, AreWorkedDays}
+use Rattle.md_match.specs.Days.{TenLines, TenLinesDeal, ThreeBids, FiveOrders, DeadPlaces, AreWorkedDays}
 
 ten-lines : TenLines
 unfolding look sweep
 ten-lines = refl
+
+ten-lines-deal : TenLinesDeal
+unfolding look sweep
+ten-lines-deal = record {
+  account_7 = record { buys_so_much = refl; sells_so_much = refl };
+  account_8 = record { buys_so_much = refl; sells_so_much = refl };
+  account_9 = record { buys_so_much = refl; sells_so_much = refl };
+}
+
+three-bids : ThreeBids
+unfolding look sweep
+three-bids = refl
 
 five-orders : FiveOrders
 unfolding look sweep
@@ -16,6 +28,12 @@ dead-places : DeadPlaces
 unfolding look sweep
 dead-places = refl
 
--- all three
+-- all four
 pub are-worked-days : AreWorkedDays
-are-worked-days = record { ten_lines = ten-lines; five_orders = five-orders; dead_places = dead-places }
+are-worked-days = record {
+  ten_lines_reply = ten-lines;
+  ten_lines_deal = ten-lines-deal;
+  three_bids_reply = three-bids;
+  five_orders = five-orders;
+  dead_places = dead-places;
+}

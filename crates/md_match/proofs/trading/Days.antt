@@ -53,7 +53,8 @@ less-distinct (x ∷ xs) y ys distinct = (less-all (λ n. nat_eq x n ≡ false) 
 pub names-distinct : (b : Book) (cs : List MatchCommand) → IsOpen b cs → IsDistinct nat_eq (map (λ o. o.name) b.orders)
 names-distinct b cs is = front-distinct (map (λ o. o.name) b.orders) (names_matched cs) is.distinct
 
-opening : (cs : List MatchCommand) → IsMatchDay cs → IsOpen empty_book cs
+-- a day begins
+pub opening : (cs : List MatchCommand) → IsMatchDay cs → IsOpen empty_book cs
 opening cs day = record { distinct = day.distinct; lawful = day.lawful; fit = All-nil Fits }
 
 module _ (b : Book) (name account : ℕ) (side : Side) (price quantity : ℕ) (cs : List MatchCommand) (is : IsOpen b (Match name account side price quantity ∷ cs)) where
@@ -109,7 +110,7 @@ cancel-open b name (Some o) cs is = record {
 }
 
 -- after each command the day goes on
-step-open : (b : Book) (c : MatchCommand) (cs : List MatchCommand) → IsOpen b (c ∷ cs) → IsOpen (match_step b c).book cs
+pub step-open : (b : Book) (c : MatchCommand) (cs : List MatchCommand) → IsOpen b (c ∷ cs) → IsOpen (match_step b c).book cs
 step-open b (Match name account side price quantity) cs is = match-open b name account side price quantity cs is
 step-open b (Cancel name) cs is = cancel-open b name (find_open b name) cs is
 step-open b (Depth side price) cs is = record { distinct = is.distinct; lawful = All-tail IsMatchCommand (Depth side price) cs is.lawful; fit = is.fit }

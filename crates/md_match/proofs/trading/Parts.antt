@@ -4,14 +4,15 @@ use Rattle.std.specs.Prelude.{sum_by, All}
 use Rattle.std.specs.List.{IsDistinct, AllByRecursion}
 use Rattle.std.proofs.lemmas.Bool.{cond_both}
 use Rattle.std.proofs.lemmas.List.{length-append, length-map}
+use Rattle.std.proofs.lemmas.List.Elements.{All-nil, All-append, All-map, All-from_recursion, recursion_from_All}
 use Rattle.std.proofs.lemmas.List.Sums.{sum_by-cons, sum_by-append}
 use Rattle.md_book.specs.declared.commands.Side.{Side}
 use Rattle.md_book.specs.declared.commands.Part.{Part}
 use Rattle.md_book.specs.declared.limits.TheConstants.{MAX_QUANTITY}
-use Rattle.md_book.specs.Book.{Order, Book, IsPrice, level_of, look}
+use Rattle.md_book.specs.Book.{Order, Trade, Book, IsAccount, IsPrice, level_of, look}
 use Rattle.md_book.specs.Suits.{IsPart}
 use Rattle.md_book.specs.Trading.{left_among}
-use Rattle.md_book.proofs.sums.LookSums.{look-rest, look-map, look-All, look-left}
+use Rattle.md_book.proofs.sums.LookSums.{look-rest, look-map, look-All, look-left, look-trades, look-accounts, look-parts}
 use Rattle.md_book.proofs.steps.RepliesSuit.{Fits, fits-less, look-few, look-each}
 use Rattle.md_match.specs.declared.commands.At.{At}
 use Rattle.md_match.specs.declared.limits.TheConstants.{MAX_LOOKS}
@@ -84,6 +85,44 @@ module _ (account : ℕ) (side : Side) (limit : ℕ) where
         let names = look-map level account (λ (o : Order). o.name) (λ _ _. refl) 1 b rest in
         let after = then (subst (IsDistinct nat_eq) (sym names) distinct) in
         omega (arith, after, look-left level account of 1 b rest distinct, sum-then (λ (p : At). cond (of p.name) p.taken 0) (λ (p : Part). cond (of p.name) p.taken 0) price (λ _. refl) l.parts (more l.book l.rest).parts);
+  })
+
+  -- what the trades took grows by the parts
+  pub sweep-trades : (looks : ℕ) (b : Book) (rest : ℕ) → sum_by (λ t. t.taken) (sweep account side limit looks b rest).book.trades
+      ≡ sum_by (λ t. t.taken) b.trades + taken_in (sweep account side limit looks b rest).parts
+  sweep-trades = sweep-relates account side limit (λ b rest s. sum_by (λ t. t.taken) s.book.trades ≡ sum_by (λ t. t.taken) b.trades + taken_in s.parts) (record {
+    ends = λ b rest. omega arith;
+    looks = λ b rest price more some e then.
+        let level = level_of (opposite side) price in
+        let l = look level account 1 b rest in
+        omega (arith, then, look-trades level account 1 b rest, sum-then (λ (p : At). p.taken) (λ (p : Part). p.taken) price (λ _. refl) l.parts (more l.book l.rest).parts);
+  })
+
+  -- each trade is of accounts in range, where the orders' accounts and the taker's are
+  pub sweep-accounts : IsAccount account → (looks : ℕ) (b : Book) (rest : ℕ) → All (λ o. IsAccount o.account) b.orders
+      → All (λ t. IsAccount t.resting × IsAccount t.taker) b.trades
+      → All (λ t. IsAccount t.resting × IsAccount t.taker) (sweep account side limit looks b rest).book.trades
+  sweep-accounts takes = sweep-relates account side limit (λ b rest s. All (λ o. IsAccount o.account) b.orders → All (λ t. IsAccount t.resting × IsAccount t.taker) b.trades → All (λ t. IsAccount t.resting × IsAccount t.taker) s.book.trades) (record {
+    ends = λ b rest accounts trades. trades;
+    looks = λ b rest price more some e then accounts trades.
+        let level = level_of (opposite side) price in
+        then (look-All level account (λ o. IsAccount o.account) (λ _ _ _ h. h) 1 b rest accounts)
+        (look-accounts level account takes 1 b rest (recursion_from_All (λ (o : Order). IsAccount o.account) b.orders accounts) trades);
+  })
+
+  -- each part is of an order of the level at which it was taken
+  pub sweep-parts : (K : ℕ → ℕ → Type 0) (looks : ℕ) (b : Book) (rest : ℕ) → All (λ o. K o.name (level_of o.side o.price)) b.orders
+      → All (λ p. K p.name (level_of (opposite side) p.price)) (sweep account side limit looks b rest).parts
+  sweep-parts K = sweep-relates account side limit (λ b rest s. All (λ o. K o.name (level_of o.side o.price)) b.orders → All (λ p. K p.name (level_of (opposite side) p.price)) s.parts) (record {
+    ends = λ b rest known. All-nil (λ (p : At). K p.name (level_of (opposite side) p.price));
+    looks = λ b rest price more some e then known.
+        let level = level_of (opposite side) price in
+        let l = look level account 1 b rest in
+        let here = All-from_recursion (λ (p : Part). K p.name level) l.parts
+        (look-parts level account K 1 b rest (recursion_from_All (λ (o : Order). K o.name (level_of o.side o.price)) b.orders known)) in
+        All-append (λ p. K p.name (level_of (opposite side) p.price)) (map (at_price price) l.parts) (more l.book l.rest).parts
+        (All-map (λ p. K p.name (level_of (opposite side) p.price)) (at_price price) l.parts here)
+        (then (look-All level account (λ o. K o.name (level_of o.side o.price)) (λ _ _ _ h. h) 1 b rest known));
   })
 
   -- no more parts are taken than places are looked at
