@@ -40,7 +40,7 @@ pub record TookTicket (shape : Shape) (ticket : ℕ) (before after : PassView) :
   pub looks : (look.kind ≡ Load) × (look.word ≡ cell_word shape)
   pub takes : Takes shape ticket take
 
--- in every machine of a dispenser, all steps that took a ticket are one step: the same steps of the segment were before it
+-- in every machine of a dispenser, the steps that took one ticket are equal, and so are those of the segments before them
 abbrev pub TicketsAreTakenOnce : Type 0
 TicketsAreTakenOnce = (o : Origin) (m : Machine) → Admitted cell_meaning o m → (ticket i j : ℕ) (p q : PassView) → IsAt m i p → IsAt m j q
     → (a : StepOf p (Takes o.shape ticket)) (b : StepOf q (Takes o.shape ticket)) → (a.earlier ≡ b.earlier) × (a.step ≡ b.step)

@@ -54,8 +54,8 @@ pub fn take_ticket(field: &Field<CellTheory>, pass: &mut Pass<CellTheory>) -> Op
     }
 }
 
-/// Two passes never get one ticket. This does nothing: its contract is a law on all machines of a
-/// dispenser. All steps that took a ticket are one step, which two passes know only after a split.
+/// The steps that took one ticket are equal, and so are the steps before them, as two passes have
+/// them after a split. This does nothing: its contract is a law on all machines of a dispenser.
 pub fn tickets_are_taken_once()
     ensures { TicketsAreTakenOnce }
 {}
