@@ -16,6 +16,7 @@ use Rattle.md_machine.specs.Machine.{content, shape_of}
 use Rattle.md_machine.specs.Stepping.{left_by, step_of}
 use Rattle.md_machine.specs.clauses.words.Stamps.{IsNoted}
 use Rattle.md_machine.specs.Trail.{Meets, SomeStepOf, StepOf}
+use Rattle.md_machine.proofs.clauses.words.Stores.{in_middle}
 use Rattle.md_machine.specs.clauses.words.RaisedOnce.{Raises}
 use Rattle.md_machine.specs.events.Exchange.{exchanged_word}
 use Rattle.example_cell.specs.CellMeaning.{cell_meaning, cell_word}
@@ -24,7 +25,7 @@ use Rattle.md_rule.specs.Steps.{Exchanged, SteppedFrom}
 use Rattle.md_rule.specs.Views.{Origin}
 use Rattle.md_rule.proofs.Moves.{is_kept}
 use Rattle.md_rule.proofs.Told.{told_exchange, told_load}
-use Rattle.example_tickets.specs.Taken.{FoundNone, TakenBelow, Takes, TicketsAreTakenOnce, TookTicket}
+use Rattle.example_tickets.specs.Taken.{FoundNone, TakenBelow, TakenTicketsArePassed, Takes, TicketsAreTakenOnce, TookTicket}
 
 -- a pass made one more step
 record OneMore (p q : PassView) : Type 0 where
@@ -103,6 +104,7 @@ module _ (o : Origin) where
   load_none word held p q at step why =
       let m = step.0.machine in record {
         earlier = [];
+        few = omega arith;
         step = step_of m p Load word (content m word);
         made = ap (λ (x : PassView). x.trail) (told_load cell_meaning o p q word step.0);
         there = at;
@@ -119,6 +121,7 @@ module _ (o : Origin) where
       let first = step_of m p Load word (content m word) in
       let differs : content n cell ≢ from = λ e. lost (sym step.1 ∙ e) in record {
         earlier = first ∷ [];
+        few = omega arith;
         step = step_of n q Exchange cell (left_by n cell from new);
         made = ap (λ (x : PassView). x.trail) (told_exchange cell_meaning o q r cell from to step.0).1
             ∙ ap (λ l. l ++ step_of n q Exchange cell (left_by n cell from new) ∷ []) (ap (λ (x : PassView). x.trail) (told_load cell_meaning o p q word loaded.0))
@@ -166,3 +169,14 @@ pub taken_once : TicketsAreTakenOnce
 taken_once o m admitted ticket i j p q at there a b =
     let counted : IsCounted (shape_of m) (cell_word o.shape) = rw admitted.shape (cell_counted o.shape) in
     (is_kept cell_meaning o m admitted).raised_once (cell_word o.shape) ticket counted i j p q at there (raised o.shape ticket p a) (raised o.shape ticket q b)
+
+-- the pass met the content that its step left, and no content that was met has a count above the present one
+pub passed : TakenTicketsArePassed
+passed o m admitted ticket i p at a =
+    let word = cell_word o.shape in
+    let counted : IsCounted (shape_of m) word = rw admitted.shape (cell_counted o.shape) in
+    let met : SomeStepOf p (Meets word a.step.after) =
+    (a.earlier ++ a.step ∷ a.later, a.segment, (a.step, in_middle a.earlier a.step a.later, inr (record { there = a.such.there; after = refl }))) in
+    let bound = (is_kept cell_meaning o m admitted).stamps.bound word a.step.after counted (inl (i, p, at, met)) in
+    let left = a.such.left in
+    omega (arith, bound, left)

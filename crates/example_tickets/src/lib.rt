@@ -8,7 +8,9 @@
 #![tactic(auto)]
 
 pub use opening::dispenser;
-pub use tickets::{renew, take_ticket, ticket_word, tickets_are_taken_once};
+pub use tickets::{
+    renew, take_ticket, taken_tickets_are_passed, ticket_word, tickets_are_taken_once,
+};
 
 mod opening;
 mod tickets;

@@ -8,8 +8,8 @@ ghost use Rattle.md_machine.specs.Event.{exchange};
 ghost use Rattle.example_cell.specs.CellMeaning.{cell_meaning, cell_word};
 ghost use Rattle.md_rule.specs.Steps.{Exchanged};
 ghost use Rattle.md_rule.specs.Views.{IsOf};
-ghost use Rattle.example_tickets.specs.Taken.{FoundNone, TakenBelow, TicketsAreTakenOnce};
-ghost use Rattle.example_tickets.specs.Taken.{TookTicket};
+ghost use Rattle.example_tickets.specs.Taken.{FoundNone, TakenBelow, TakenTicketsArePassed};
+ghost use Rattle.example_tickets.specs.Taken.{TicketsAreTakenOnce, TookTicket};
 
 use example_cell::CellTheory;
 use md_machine::step::LAST_COUNT;
@@ -58,6 +58,12 @@ pub fn take_ticket(field: &Field<CellTheory>, pass: &mut Pass<CellTheory>) -> Op
 /// them after a split. This does nothing: its contract is a law on all machines of a dispenser.
 pub fn tickets_are_taken_once()
     ensures { TicketsAreTakenOnce }
+{}
+
+/// The count of the cell's word is past each ticket that any pass took; so no pass takes it again.
+/// This does nothing: its contract is a law on all machines of a dispenser.
+pub fn taken_tickets_are_passed()
+    ensures { TakenTicketsArePassed }
 {}
 
 /// Exchanges a content of the cell's word for the same value with a count that is 2 more. The
