@@ -114,14 +114,6 @@ impl<'a, T: Theory> Txn<'a, T> {
         Err(stop)
     }
 
-    // The own descriptor, if it stands in a word.
-    fn holding(&self) -> Option<u32> {
-        if self.sets.slots.len() == 0 {
-            return None;
-        }
-        Some(self.desc)
-    }
-
     // Looks at any other word.
     #[inline(always)]
     fn load_other(&mut self, word: u32) -> Result<Seen, Stop>
@@ -134,8 +126,7 @@ impl<'a, T: Theory> Txn<'a, T> {
         ensures steps { LookSteps (state self.old) (state self.new) word result }
         ensures given { KeepsGiven (state self.old) (state self.new) word }
     {
-        let holding = self.holding();
-        let was = look_at(self.field, self.pass, word, holding);
+        let was = look_at(self.field, self.pass, word, self.desc, &self.sets.slots);
         let found = Content::of(was);
         if found.stands().is_none() {
             return Ok(seen_of(found));

@@ -36,6 +36,7 @@ pub struct Slot {
 
 impl Slot {
     /// A slot of a number, for a word with this old content and a new value.
+    #[inline(always)]
     pub fn of(slot: u8, word: u32, old: u64, to: u32) -> Slot
         ensures { result ≡ record {
           write = record { slot = slot; word = word; old = old; new = to };

@@ -4,8 +4,11 @@ use Rattle.std.proofs.lemmas.Bool.{cases_Bool, cond-false}
 use Rattle.std.proofs.lemmas.List.{length-map, length-take-le}
 use Rattle.md_machine.specs.declared.attempt.Read.{Read}
 use Rattle.md_machine.specs.Certified.{content_read}
+use Rattle.md_nbtc_law.specs.declared.seen.Cleanup.{Cleanup}
 use Rattle.md_nbtc_law.specs.declared.slots.Slot.{Slot}
+use Rattle.md_nbtc_law.specs.Cleaning.{with_cleanup}
 use Rattle.md_nbtc_law.specs.Sets.{place_of}
+use Rattle.md_nbtc_law.proofs.keeping.Mapping.{changed_to}
 use Rattle.md_nbtc_sets.specs.declared.marks.TheConstants.{MARKS}
 use Rattle.md_nbtc_sets.specs.Marks.{AreMarked, AreMarkedFrom}
 
@@ -41,6 +44,21 @@ slot_before marks (s ∷ ss) (suc n) (suc k) word place from are few early =
 -- and none has its slot before
 pub none_written_before : (marks : List ℕ) (items : List Slot) (n k word : ℕ) → AreMarked marks (take n (map (λ x. x.write.word) items)) → k ≤ n → k ≤ get_or marks (word % MARKS) 0 → place_of (take k items) word 0 ≡ None
 none_written_before marks items n k word are few early = slot_before marks items n k word 0 0 are few (omega (arith, early))
+
+kept_before : (marks : List ℕ) (items : List Slot) (n k word place : ℕ) (c : Cleanup) (d : Slot) → AreMarkedFrom marks (take n (map (λ x. x.write.word) items)) place → k ≤ n
+    → place + k ≤ get_or marks (word % MARKS) 0 → changed_to (with_cleanup word c) d k items ≡ items
+kept_before marks items n zero word place c d are few early = refl
+kept_before marks [] n (suc k) word place c d are few early = refl
+kept_before marks (s ∷ ss) zero (suc k) word place c d are few early = absurd (omega (arith, few))
+kept_before marks (s ∷ ss) (suc n) (suc k) word place c d are few early =
+    ap (λ x. x ∷ changed_to (with_cleanup word c) d k ss)
+    (cond-false (s.write.word == word) (record s { cleanup = Some c }) s (apart marks s.write.word word place are.0 (omega (arith, early))))
+    ∙ ap (λ l. s ∷ l) (kept_before marks ss n k word (place + 1) c d are.1 (omega (arith, few)) (omega (arith, early)))
+
+-- so no slot before gets a cleanup of the word
+pub none_kept_before : (marks : List ℕ) (items : List Slot) (n k word : ℕ) (c : Cleanup) (d : Slot) → AreMarked marks (take n (map (λ x. x.write.word) items)) → k ≤ n
+    → k ≤ get_or marks (word % MARKS) 0 → changed_to (with_cleanup word c) d k items ≡ items
+none_kept_before marks items n k word c d are few early = kept_before marks items n k word 0 c d are few (omega (arith, early))
 
 marked_and : (marks marks' words : List ℕ) (word place : ℕ) → get_or marks' (word % MARKS) 0 ≤ place + length words → ((i : ℕ) → get_or marks' i 0 ≤ get_or marks i 0)
     → AreMarkedFrom marks words place → AreMarkedFrom marks' (words ++ word ∷ []) place

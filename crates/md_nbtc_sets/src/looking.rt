@@ -8,6 +8,7 @@ ghost use Rattle.md_help.specs.After.{StandsInField};
 ghost use Rattle.md_nbtc_law.specs.declared.seen.TheConstants.{LOOKS};
 ghost use Rattle.md_nbtc_law.specs.Looking.{LooksUntil};
 
+use crate::sets::Slots;
 use md_machine::Theory;
 use md_nbtc_law::LOOKS;
 use md_rule::{Field, Pass};
@@ -27,14 +28,14 @@ fn pause(turns: u32) {
     }
 }
 
-// How often another's descriptor is looked at again. `holding` is the own one, if it stands in a
-// word.
-fn patience(holding: Option<u32>, other: u32) -> u32
+// How often another's descriptor is looked at again. The own one stands in the words of the slots.
+fn patience(own: u32, slots: &Slots, other: u32) -> u32
     ensures { (1 ≤ result) × (result ≤ LOOKS) }
 {
-    match holding {
-        Some(own) if own < other => FEW_LOOKS,
-        _ => LOOKS,
+    if slots.len() > 0 && own < other {
+        FEW_LOOKS
+    } else {
+        LOOKS
     }
 }
 
@@ -70,17 +71,18 @@ fn await_other<T: Theory>(
 }
 
 /// Looks at a word, and returns what it found: a descriptor only if it stands there for a while.
-/// The word is any of the field's, and `holding` is the own descriptor, if it stands in a word. The
-/// call always succeeds, and takes no memory.
+/// The word is any of the field's. `own` is the own descriptor, which stands in the words of its
+/// slots. The call always succeeds, and takes no memory.
 ///
 /// It takes one step. If a descriptor stands in the word, it looks again until something else
-/// stands there, at most 300 times, with short pauses between. It does so at most 60 times if the
-/// number of the own descriptor is lower.
+/// stands there, at most 300 times, with short pauses between. It does so at most 60 times if there
+/// are slots, and the number of the own descriptor is lower.
 pub fn look_at<T: Theory>(
     field: &Field<T>,
     pass: &mut Pass<T>,
     word: u32,
-    holding: Option<u32>,
+    own: u32,
+    slots: &Slots,
 ) -> u64
     requires of { IsOf pass.old field.now }
     requires stands { StandsInField T.meaning field.now.origin pass.old.view }
@@ -93,7 +95,7 @@ pub fn look_at<T: Theory>(
     match Content::of(found).stands() {
         None => found,
         Some(spot) => {
-            let most = patience(holding, spot.desc);
+            let most = patience(own, slots, spot.desc);
             await_other(field, pass, word, found, most)
         }
     }

@@ -170,6 +170,7 @@ impl Slots {
     }
 
     /// Keeps one slot more. There are fewer than `SET`. It takes no step and no memory.
+    #[inline(always)]
     pub fn push(&mut self, slot: Slot)
         requires { length self.old < SET }
         ensures { self.new ≡ self.old ++ slot ∷ [] }
@@ -184,7 +185,7 @@ impl Slots {
     pub fn keep(&mut self, word: u32, cleanup: Cleanup)
         ensures { self.new ≡ map (with_cleanup word cleanup) self.old }
     {
-        for i in 0..self.count {
+        for i in self.marks.first(word).min(self.count)..self.count {
             let slot = self.items[i as usize];
             if slot.write.word == word {
                 self.items[i as usize].cleanup = Some(cleanup);

@@ -1,12 +1,25 @@
 use Rattle.std.proofs.Common.{◌<◌, length, map, take, refl, sym, ap, subst, ◌∙◌, arith}
+use Rattle.std.proofs.Math.Nat.{min-le_left, min-le_right}
 use Rattle.std.proofs.Math.Seq.{map-set_same}
 use Rattle.std.proofs.lemmas.List.{length-map}
 use Rattle.md_nbtc_law.specs.declared.slots.TheConstants.{NO_SLOT}
 use Rattle.md_nbtc_law.proofs.keeping.Keeping.{keep_else, keep_then}
 use Rattle.md_nbtc_sets.specs.declared.sets.Slots.TheInside.{Inside}
 use Rattle.md_nbtc_sets.specs.Marks.{AreMarked}
+use Rattle.md_nbtc_sets.proofs.Marking.{none_kept_before}
 use Rattle.md_nbtc_sets.proofs.sets.Slots.keep.Goals.{then-slot-word, else-slot-word}
 use Rattle.md_nbtc_sets.proofs.sets.Slots.keep.Goals as goal
+
+pub loop-i-init : goal.loop-i-init
+loop-i-init c =
+    let is = c.min-i.ensures in (
+      sym (none_kept_before c.self.inside.marks c.self.inside.items c.self.inside.count c.min-i.result c.args.word c.args.cleanup NO_SLOT c.self.invariant.2
+          (omega (arith, is, min-le_right c.first.result c.self.inside.count))
+          (omega (arith, is, min-le_left c.first.result c.self.inside.count, c.first.ensures))),
+      refl,
+      refl,
+      refl,
+    )
 
 pub loop-i-preserved : goal.loop-i-preserved
 loop-i-preserved c =
