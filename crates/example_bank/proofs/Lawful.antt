@@ -26,13 +26,13 @@ bank-whole s is =
     single (x ∷ []) d one = refl
     single (x ∷ y ∷ xs) d one = absurd (omega (arith, one))
 
--- a transfer makes seven calls at most
-calls-few : (t : Transfer) → MakesAtMost 7 (script_of t)
+-- a transfer makes five calls at most
+calls-few : (t : Transfer) → MakesAtMost 5 (script_of t)
 calls-few t = λ from to. each (new_balances t (value_in from) (value_in to))
   where
-    each : (o : _) → MakesAtMost 5 (decided t o)
+    each : (o : _) → MakesAtMost 3 (decided t o)
     each (Err why) = tt
-    each (Ok new) = λ _ _ _ _ _. tt
+    each (Ok new) = λ _ _ _. tt
 
 abbrev is_good : State → State → Type 0
 is_good opening s = IsBank opening
@@ -50,6 +50,6 @@ stays t opening s same bank =
 
 pub transfers-lawful : AreLawfulBodies (λ t acts r. Did (script_of t) acts r) (λ t acts. Follows (script_of t) acts)
     (λ t maps queues. (ACCOUNTS < maps) × (JOURNAL < queues)) is_good transfer_bounds 1
-transfers-lawful = scripts-lawful script_of (λ t maps queues. (ACCOUNTS < maps) × (JOURNAL < queues)) is_good 7 1
+transfers-lawful = scripts-lawful script_of (λ t maps queues. (ACCOUNTS < maps) × (JOURNAL < queues)) is_good 5 1
     calls-few (λ t opening s same bank. stays t opening s same bank)
     (λ t opening bank. (omega (arith, bank.accounts), omega (arith, bank.journal)))

@@ -5,29 +5,21 @@ use Rattle.std.specs.FinMap as fin
 use Rattle.std.proofs.lemmas.Bool.Decides.{nat_tests}
 use Rattle.std.proofs.lemmas.List.{length-append}
 use Rattle.md_history.specs.declared.acts.Act.{Act}
-use Rattle.md_history.specs.declared.acts.Op.TheVariants.{Insert, Remove, Enqueue}
-use Rattle.md_history.specs.State.{State, run, after, IsRight}
+use Rattle.md_history.specs.State.{State, run, IsRight}
 use Rattle.md_history.specs.Script.{Did}
 use Rattle.md_history.proofs.Plays.{played, outcome, did-played}
 use Rattle.md_history.proofs.Keys.{get-insert_other, len-replaced}
 use Rattle.md_history.proofs.Weights.{weigh-replaced}
-use Rattle.md_many.proofs.Replacing.{replaced}
 use Rattle.example_bank.specs.declared.bank.Transfer.{Transfer}
 use Rattle.example_bank.specs.declared.bank.Refusal.{Refusal}
 use Rattle.example_bank.specs.declared.bank.Outcome.{Outcome}
-use Rattle.example_bank.specs.declared.bank.TheConstants.{ACCOUNTS, JOURNAL}
 use Rattle.example_bank.specs.Bank.{Bank, state_of, total, new_balances, balances_of, after_balances, outcome_of_balances, bank_after, outcome_in, decided, script_of}
 
 -- what the decided part of a transfer leaves
 decided-leaves : (t : Transfer) (b : Bank) (o : Result (ℕ × ℕ) Refusal)
     → played (decided t o) (state_of b) ≡ state_of (after_balances b t o)
 decided-leaves t b (Err why) = refl
-decided-leaves t b (Ok new) =
-    ap (λ s. after (after (after s (Remove ACCOUNTS t.to)) (Insert ACCOUNTS t.to new.1)) (Enqueue JOURNAL t.number))
-    (replaced (state_of b) ACCOUNTS t.from new.0 (omega arith))
-    ∙ ap (λ s. after s (Enqueue JOURNAL t.number))
-    (replaced (state_of (record { accounts = fin.insert b.accounts t.from new.0; journal = b.journal })) ACCOUNTS t.to new.1
-    (omega arith))
+decided-leaves t b (Ok new) = refl
 
 decided-replies : (t : Transfer) (s : State) (o : Result (ℕ × ℕ) Refusal) → outcome (decided t o) s ≡ outcome_of_balances o
 decided-replies t s (Err why) = refl

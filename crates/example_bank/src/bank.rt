@@ -2,7 +2,7 @@
 
 ghost use Rattle.std.specs.Prelude.{◌≡◌, ◌<◌, None};
 ghost use Rattle.md_history.specs.Playing.{PlaysPart};
-ghost use Rattle.example_bank.specs.Bank.{new_balances, write_both, write_second, write_journal};
+ghost use Rattle.example_bank.specs.Bank.{new_balances, write_all};
 
 use medley_transactions::{Body, LawfulBody, Stop, TxCalls};
 
@@ -14,7 +14,7 @@ pub const JOURNAL: u32 = 0;
 
 /// An amount to be moved from one account to another, and a number, which the journal gets if money
 /// moves. Each may be any. As a body a transfer needs a store with at least one map and one queue.
-/// It reads at most 28 words, writes at most 49 and takes at most 7 nodes.
+/// It reads at most 10 words, writes at most 20 and takes at most 5 nodes.
 #[derive(Clone, Copy, Debug, PartialEq, Eq)]
 pub struct Transfer {
     pub number: u64,
@@ -69,33 +69,8 @@ impl Transfer {
     }
 }
 
-// Writes the transfer's number into the journal.
-fn write_journal<T: TxCalls>(t: &mut T, transfer: &Transfer) -> Result<Outcome, Stop>
-    requires going { T.stop t.old ≡ None }
-    requires journal { JOURNAL < T.queues (T.kept t.old) }
-    ensures plays { PlaysPart (write_journal transfer.now) result T.acts T.stop t.old t.new }
-    ensures kept { T.kept t.new ≡ T.kept t.old }
-{
-    t.enqueue(JOURNAL, transfer.number)?;
-    Ok(Outcome::Moved)
-}
-
-// Writes the second balance, and then the journal.
-fn write_second<T: TxCalls>(t: &mut T, transfer: &Transfer, to: u64) -> Result<Outcome, Stop>
-    requires going { T.stop t.old ≡ None }
-    requires accounts { ACCOUNTS < T.maps (T.kept t.old) }
-    requires journal { JOURNAL < T.queues (T.kept t.old) }
-    ensures plays { PlaysPart (write_second transfer.now to) result T.acts T.stop t.old t.new }
-    ensures kept { T.kept t.new ≡ T.kept t.old }
-{
-    t.remove(ACCOUNTS, transfer.to)?;
-    t.insert(ACCOUNTS, transfer.to, to)?;
-    write_journal(t, transfer)
-}
-
-// Writes both balances, and the transfer's number into the journal. It is in three parts, since the
-// proof of a part grows with the calls that may be refused before its end.
-fn write_both<T: TxCalls>(
+// Writes both balances, and the transfer's number into the journal.
+fn write_all<T: TxCalls>(
     t: &mut T,
     transfer: &Transfer,
     from: u64,
@@ -104,12 +79,13 @@ fn write_both<T: TxCalls>(
     requires going { T.stop t.old ≡ None }
     requires accounts { ACCOUNTS < T.maps (T.kept t.old) }
     requires journal { JOURNAL < T.queues (T.kept t.old) }
-    ensures plays { PlaysPart (write_both transfer.now from to) result T.acts T.stop t.old t.new }
+    ensures plays { PlaysPart (write_all transfer.now from to) result T.acts T.stop t.old t.new }
     ensures kept { T.kept t.new ≡ T.kept t.old }
 {
-    t.remove(ACCOUNTS, transfer.from)?;
-    t.insert(ACCOUNTS, transfer.from, from)?;
-    write_second(t, transfer, to)
+    t.put(ACCOUNTS, transfer.from, from)?;
+    t.put(ACCOUNTS, transfer.to, to)?;
+    t.enqueue(JOURNAL, transfer.number)?;
+    Ok(Outcome::Moved)
 }
 
 impl Body for Transfer {
@@ -130,7 +106,7 @@ impl Body for Transfer {
         let from = t.get(ACCOUNTS, self.from)?;
         let to = t.get(ACCOUNTS, self.to)?;
         match self.new_balances(from, to) {
-            Ok((from, to)) => write_both(t, self, from, to),
+            Ok((from, to)) => write_all(t, self, from, to),
             Err(why) => Ok(Outcome::Refused(why)),
         }
     }

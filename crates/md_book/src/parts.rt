@@ -7,7 +7,7 @@ ghost use Rattle.md_book.specs.Scripts.{raise, put_or_remove, lower};
 use md_history::{Stop, TxCalls};
 
 /// Adds to a key's value, at most up to the largest number. A key without a value counts as 0.
-/// `by` isn't 0, so that no key gets the value 0.
+/// Callers pass a `by` that isn't 0: with 0, a key without a value would get the value 0.
 pub fn raise<T: TxCalls>(t: &mut T, map: u32, key: u64, by: u64) -> Result<(), Stop>
     requires going { T.stop t.old ≡ None }
     requires map { map < T.maps (T.kept t.old) }

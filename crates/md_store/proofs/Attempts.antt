@@ -30,8 +30,9 @@ use Rattle.md_rule_lanes.specs.declared.shares.Share.{Share}
 use Rattle.md_store_law.specs.Store.{store}
 use Rattle.md_store_counts.specs.Few.{RecordsOne}
 use Rattle.md_nbtc_law.specs.Ended.{WasAborted, WasCommitted, WasLost}
+use Rattle.md_store_bodies.specs.Counted.{Exceeds, Reaches}
 use Rattle.md_store_bodies.specs.Running.{IsRunning}
-use Rattle.md_store_bodies.specs.Store.{IsPassOf, MayStop, all_lanes, begun_by, front_in, start_of}
+use Rattle.md_store_bodies.specs.Store.{HasAllLanes, IsPassOf, MayStop, all_lanes, begun_by, front_in, start_of}
 use Rattle.md_store_bodies.specs.Laws.{of_is}
 use Rattle.md_store_bodies.proofs.AllLanes.{holds_all}
 
@@ -179,6 +180,15 @@ module _ (f : FieldView) (p : PassState) (of : IsPassOf f p) (u : TxnState) (r :
     pub cause : HasCause u refusal.stop
     cause = run.going.1.stop refusal.stop (run.stop ∙ ap (option_map (λ (x : Refusal). x.stop)) is)
 
+    -- the limit that refused it was reached, and exceeded by a pass of all lanes
+    pub reached : Reaches p u.hand.acts refusal.op refusal.stop
+    reached = run.reaches refusal is (subst (λ (g : FieldView). IsPassOf g p) (sym field) of)
+
+    pub exceeded : HasAllLanes f p → Exceeds f p u.hand.acts refusal.op refusal.stop
+    exceeded all =
+        subst (λ (g : FieldView). Exceeds g p u.hand.acts refusal.op refusal.stop) field
+        (run.exceeds refusal is (subst (λ (g : FieldView). IsPassOf g p) (sym field) of) (subst (λ (g : FieldView). HasAllLanes g p) (sym field) all))
+
     pub refused_may : MayStop refusal.stop
     refused_may = may_be refusal.stop cause.no_memory
 
@@ -206,7 +216,7 @@ module _ (f : FieldView) (p q : PassState) (of : IsPassOf f p) (none : BeginsNot
       subst (λ (x : Shape). Stops tag (front_in p) (front_of x q.view)) (sym unbegun_shape)
       (refused_front store f.origin p.shape tag p q none)
 
-  unbegun_same : begun_by q ≡ begun_by p
+  pub unbegun_same : begun_by q ≡ begun_by p
   unbegun_same =
       ap (λ (lanes : List ℕ). sum_by (tries_of q) lanes) none.same.lanes
       ∙ ap (λ (shares : List Share). sum_by (λ (lane : ℕ). (share_at shares lane).tries_taken) p.view.lanes) none.shares
@@ -239,6 +249,7 @@ begun_runs p tag t begins going = record {
       reads = λ r among. absurd (in_none r (subst (λ l. Contains l r) begins.reads among));
     },
   );
+  reaches = λ refusal some. absurd (no_refusal refusal some);
   exceeds = λ refusal some. absurd (no_refusal refusal some);
 }
 

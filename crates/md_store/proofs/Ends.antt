@@ -19,9 +19,10 @@ use Rattle.md_rule.specs.Kept.{KeepsLanes}
 use Rattle.md_rule.specs.Views.{FieldView, PassState}
 use Rattle.md_store_law.specs.Store.{store}
 use Rattle.md_store.specs.Attempted.{IsAttempted}
+use Rattle.md_store_bodies.specs.Counted.{Exceeds, Reaches}
 use Rattle.md_store_bodies.specs.Running.{BreaksOff, IsRunning}
 use Rattle.md_store_bodies.specs.Store.{IsPassOf, IsUnworn, MayStop}
-use Rattle.md_store.proofs.Attempts.{RunOf, alone_lost, begun_committed, begun_lost, begun_stopped, cause, counted_if, front_committed, front_lost, front_stopped, legal_of, of_committed, of_lost, of_stopped, refused_may, refused_to, unbegun_counts, unbegun_front, unbegun_of}
+use Rattle.md_store.proofs.Attempts.{RunOf, alone_lost, begun_committed, begun_lost, begun_stopped, cause, counted_if, exceeded, front_committed, front_lost, front_stopped, legal_of, of_committed, of_lost, of_stopped, reached, refused_may, refused_to, unbegun_counts, unbegun_front, unbegun_of}
 use Rattle.md_store.proofs.FirstAttempts.{refused_unworn}
 use Rattle.md_store.proofs.Small.{has_try, holds_lanes, none_refused}
 
@@ -115,8 +116,10 @@ module _ {R : Type 0} (f : FieldView) (p : PassState) (of : IsPassOf f p) (tag :
           cause = inr (inl (record {
             txn = u;
             field = on.field;
-            broke = off.broke;
+            off = off;
             cause = subst (HasCause u) same (cause f p of u (Some refusal) running on.field refusal refl);
+            reaches = subst (Reaches p u.hand.acts refusal.op) same (reached f p of u (Some refusal) running on.field refusal refl);
+            exceeds = λ all. subst (Exceeds f p u.hand.acts refusal.op) same (exceeded f p of u (Some refusal) running on.field refusal refl all);
             stopped = gone;
           }));
           may_stop = subst MayStop same (refused_may f p of u (Some refusal) running on.field refusal refl);

@@ -15,4 +15,6 @@ pub mod Untouched
 pub mod FirstAttempts
 pub mod Small
 pub mod Ends
+pub mod Transactions
+pub mod BreakingOff
 pub mod Numbers

@@ -9,7 +9,7 @@ use Rattle.md_rule.specs.Closing.{plain_words}
 use Rattle.md_rule_lanes.specs.Shares.{share_at}
 use Rattle.md_rule.specs.Views.{FieldView, IsOf, Origin, PassState}
 use Rattle.md_store_law.specs.Untouched.{IsUntouched}
-use Rattle.md_store_law.specs.Compacted.{IsCompacted, MayHaveBase, contents_of}
+use Rattle.md_store_law.specs.Compacted.{IsCompacted, IsWithBase, MayHaveBase, contents_of}
 use Rattle.md_store_law.specs.Field.{logical_words}
 use Rattle.md_store.specs.Ending.{EndsField, Renews}
 use Rattle.md_store_bodies.specs.Store.{IsPassOf, IsShareUnused, all_lanes, front_in, limits_of, room_of, start_of}
@@ -41,9 +41,10 @@ module _ (f : FieldView) (before last : PassState) (words : List ℕ) (left : En
         let new = opened_fresh g first fresh row (contents_of f.origin.shape words) field c.opens of view unused in
         let shape : g.origin.shape ≡ fresh = ap (λ (x : Origin). x.shape) field in record {
           start = start ∙ left.contents;
+          shape = subst (IsWithBase f.origin.shape (needed (replay_of (start_of f) (front_in last)))) (sym shape)
+              (subst (λ (s : State). IsWithBase f.origin.shape (needed s) fresh) left.contents c.numbers);
           lanes = ap all_lanes shape ∙ same_lanes f.origin.shape fresh (needed (contents_of f.origin.shape words)) c.numbers;
           limits = ap limits_of shape ∙ same_limits f.origin.shape fresh (needed (contents_of f.origin.shape words)) c.numbers;
-          base = ap (λ (x : Shape). x.base) shape ∙ c.numbers.2 ∙ ap needed left.contents;
           of = is_of;
           fresh = new;
           untouched = subst (λ (x : Origin). IsUntouched x.shape x.words) (sym field) c.untouched;

@@ -8,7 +8,7 @@ use Rattle.md_history.specs.Engine.{IsNoConflict, bounds_in}
 use Rattle.md_rule.specs.Views.{FieldView, PassState}
 use Rattle.md_store_law.specs.Untouched.{IsUntouched}
 use Rattle.md_store.specs.Causes.{StopsBy}
-use Rattle.md_store_bodies.specs.Store.{IsFresh, IsPassOf, IsUnworn, MayStop, all_lanes, begun_by, front_in, limits_of, start_of}
+use Rattle.md_store_bodies.specs.Store.{HasAllLanes, IsFresh, IsPassOf, IsUnworn, MayStop, begun_by, front_in, limits_of, start_of}
 
 -- An attempt of a body, which did and makes such acts, had this tag and this result; its pass stood so before and after.
 -- It took effect as a whole or not at all, and is counted. If it stopped, it shows the cause, which is never `NoMemory`.
@@ -19,9 +19,9 @@ pub record IsAttempted {R : Type 0} (f : FieldView) (before after : PassState) (
   pub atomic : IsAtomic did tag (start_of f) result (front_in before) (front_in after)
   pub of : IsPassOf f after
   pub begun : CountsAttempt result (begun_by before) (begun_by after)
-  pub cause : IfStopped result (StopsBy f before after)
+  pub cause : IfStopped result (StopsBy f makes before after)
   pub may_stop : IfStopped result MayStop
-  pub alone : (front_in before).lanes ≡ all_lanes f.origin.shape → IfStopped result IsNoConflict
+  pub alone : HasAllLanes f before → IfStopped result IsNoConflict
   pub unworn : IsFresh before → IsUntouched f.origin.shape f.origin.words → IfStopped result IsUnworn
   pub small : IsFresh before → IsUntouched f.origin.shape f.origin.words → 1 ≤ (limits_of f.origin.shape).tries
       → IsSmall (bounds_in (limits_of f.origin.shape)) makes (start_of f) → IfStopped result (λ why. ⊥)

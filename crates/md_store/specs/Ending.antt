@@ -4,7 +4,7 @@ use Rattle.md_history.specs.Engine.{SettlesFrom, needed}
 use Rattle.md_history.specs.Front.{replay_of}
 use Rattle.md_history.specs.State.{HaveSameNumbers, State}
 use Rattle.md_rule.specs.Views.{FieldView, PassState}
-use Rattle.md_store_law.specs.Compacted.{contents_of}
+use Rattle.md_store_law.specs.Compacted.{IsWithBase, contents_of}
 use Rattle.md_store_law.specs.Field.{IsStoreField}
 use Rattle.md_store_law.specs.Untouched.{IsUntouched}
 use Rattle.md_store_bodies.specs.Store.{IsFresh, IsPassOf, all_lanes, begun_by, front_in, limits_of, start_of}
@@ -16,13 +16,13 @@ pub record EndsField (f : FieldView) (before : PassState) (words : List ℕ) (la
   pub store : IsStoreField f.origin.shape words
   pub contents : contents_of f.origin.shape words ≡ replay_of (start_of f) (front_in last)
 
--- a field was renewed: one with this state and a fresh pass, in whose words nothing was changed yet, takes its place, with
--- the same lanes and limits, and with as many base nodes as the state needs
+-- a field was renewed: one with this state and a fresh pass, in whose words nothing was changed yet, takes its place. Its
+-- shape is the same, but for as many base nodes as the state needs; so it has the same lanes and limits
 pub record Renews (f renewed : FieldView) (first : PassState) (s : State) : Type 0 where
   pub start : start_of renewed ≡ s
+  pub shape : IsWithBase f.origin.shape (needed s) renewed.origin.shape
   pub lanes : all_lanes renewed.origin.shape ≡ all_lanes f.origin.shape
   pub limits : limits_of renewed.origin.shape ≡ limits_of f.origin.shape
-  pub base : renewed.origin.shape.base ≡ needed s
   pub of : IsPassOf renewed first
   pub fresh : IsFresh first
   pub untouched : IsUntouched renewed.origin.shape renewed.origin.words

@@ -3,3 +3,5 @@ pub mod Settling
 pub mod Ending
 pub mod Causes
 pub mod Attempted
+pub mod PassRow
+pub mod Transactions

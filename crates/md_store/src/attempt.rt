@@ -3,12 +3,12 @@
 ghost use Rattle.md_store.specs.Attempted.{IsAttempted};
 ghost use Rattle.md_store_bodies.specs.Store.{IsPassOf};
 
+use crate::body::run;
 use crate::pass::StorePass;
 use crate::store::Store;
 use md_history::{Attempt, Body, Stop};
 use md_nbtc::{Sets, Txn};
 use md_rule::Pass;
-use md_store_bodies::run;
 use md_store_law::StoreTheory;
 use std::snapshot::Snapshot;
 

@@ -13,7 +13,8 @@ use std::marker::Model;
 pub struct StorePass {
     /// The pass of the field, which may begin transactions of its own on it.
     pub pass: Pass<StoreTheory>,
-    pub(crate) sets: Sets,
+    /// The room for its transactions, one at a time.
+    pub sets: Sets,
 }
 
 impl Model for StorePass {

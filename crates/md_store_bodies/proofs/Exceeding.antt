@@ -1,6 +1,6 @@
--- An operation of a fresh store's first transaction that was refused by a limit counts, with the acts before it, more than
--- the limits allow.
-use Rattle.std.proofs.Common.{◌≡◌, ◌≢◌, ◌≤◌, ◌+◌, ◌++◌, ◌∙◌, ℕ, List, [], ◌∷◌, map, length, take, refl, sym, ap, subst, ⊎_elim, arith}
+-- An operation that was refused by a limit, while its pass holds all lanes, counts with the acts before it more than the
+-- limits allow.
+use Rattle.std.proofs.Common.{◌≡◌, ◌≢◌, ◌≤◌, ◌<◌, ◌+◌, ◌++◌, ◌∙◌, ℕ, List, [], ◌∷◌, map, length, take, refl, sym, ap, subst, ⊎_elim, arith}
 use Rattle.std.specs.List.{All, AllPairs, Contains}
 use Rattle.std.proofs.lemmas.List.{length-append, length-map, length-take, map-append}
 use Rattle.md_words.specs.declared.limits.TheConstants.{SET}
@@ -9,22 +9,21 @@ use Rattle.md_history.specs.declared.acts.Op.{Op}
 use Rattle.md_history.specs.declared.acts.Op.TheVariants.{Dequeue, Enqueue, Front, Get, Insert, Line, Put, Remove}
 use Rattle.md_history.specs.Act.{act_of}
 use Rattle.md_history.specs.Calls.{MayReply}
-use Rattle.md_history.specs.Counts.{nodes, reads, writes}
+use Rattle.md_history.specs.Counts.{reads, writes}
 use Rattle.md_history.specs.CountLaws.{writes-prefix}
 use Rattle.md_history.specs.State.{IsRight, State, after, answer, queue_at, run}
 use Rattle.md_machine.specs.declared.certificate.Certificate.{Certificate}
 use Rattle.md_machine.specs.LogicalHeap.{LogicalHeap}
 use Rattle.md_machine.proofs.lists.Differ.{pairs_append}
 use Rattle.md_machine.proofs.lists.Rising.{in_cons, in_map, in_none}
-use Rattle.md_rule.specs.Views.{FieldView}
+use Rattle.md_rule.specs.Views.{FieldView, PassState}
 use Rattle.md_store_counts.specs.Few.{AllCharged, RecordsOne, StandFrom, certificate_acts, changed_words, recorded_words}
 use Rattle.md_store_counts.proofs.Recording.{recorded_are_few}
 use Rattle.md_store_counts.proofs.Writing.{written_are_few}
-use Rattle.md_store_bodies.specs.Counted.{Exceeds}
-use Rattle.md_store_bodies.specs.Store.{start_of}
+use Rattle.md_store_bodies.specs.Counted.{MayFollow, MayFollowOn, NeedMore, ReadMore, WriteMore}
 
 -- what an operation answers is a reply of its kind
-answer_may : (s : State) (op : Op) → MayReply op (answer s op)
+pub answer_may : (s : State) (op : Op) → MayReply op (answer s op)
 answer_may s (Get m k) = tt
 answer_may s (Insert m k v) = tt
 answer_may s (Remove m k) = tt
@@ -65,49 +64,52 @@ one_more_word {A} f xs word differ other = (
     other_in : (ys : List A) (a : ℕ) → Contains (map f ys) a → {b : ℕ} → b ≡ word → ((x : A) → Contains ys x → f x ≢ word) → a ≢ b
     other_in ys a among {b} is apart = let x = in_map f ys a among in λ same. apart x.0 x.1 (x.2 ∙ same ∙ is)
 
-module _ (f : FieldView) (acts : List Act) (right : IsRight (start_of f) acts) (op : Op) where
-  abbrev pub asked : Act
-  asked = act_of op (answer (run (start_of f) acts) op)
+-- of a state in which right acts may follow what a pass has seen
+module _ (f : FieldView) (p : PassState) (s : State) (follow : (made : List Act) → IsRight s made → MayFollow f p made) where
+  module _ (acts : List Act) (right : IsRight s acts) (op : Op) where
+    abbrev pub asked : Act
+    asked = act_of op (answer (run s acts) op)
 
-  exceeds : ¬ ((reads (acts ++ asked ∷ []) ≤ SET) × (writes (acts ++ asked ∷ []) ≤ SET) × (nodes (acts ++ asked ∷ []) ≤ f.origin.shape.nodes)) → Exceeds f acts op
-  exceeds more = record {
-    reply = answer (run (start_of f) acts) op;
-    may = answer_may (run (start_of f) acts) op;
-    right = right_push (start_of f) acts op right;
-    more = λ few. more (few.reads, few.writes, few.nodes);
-  }
+    goes_on : (Such : List Act → Type 0) → Such (acts ++ asked ∷ []) → MayFollowOn f p acts op Such
+    goes_on Such is = record {
+      reply = answer (run s acts) op;
+      may = answer_may (run s acts) op;
+      such = (follow (acts ++ asked ∷ []) (right_push s acts op right), is);
+    }
 
-  pub more_reads : SET + 1 ≤ reads (acts ++ asked ∷ []) → Exceeds f acts op
-  more_reads most = exceeds (λ few. let is = few.0 in absurd (omega (arith, most, is)))
+    pub more_reads : SET < reads (acts ++ asked ∷ []) → MayFollowOn f p acts op ReadMore
+    more_reads most = goes_on ReadMore most
 
-  pub more_writes : SET + 1 ≤ writes (acts ++ asked ∷ []) → Exceeds f acts op
-  more_writes most = exceeds (λ few. let is = few.1 in absurd (omega (arith, most, is)))
+    pub more_writes : SET < writes (acts ++ asked ∷ []) → MayFollowOn f p acts op WriteMore
+    more_writes most = goes_on WriteMore most
 
-  -- so many words by the earlier acts alone are enough
-  pub more_writes_before : SET + 1 ≤ writes acts → Exceeds f acts op
-  more_writes_before most = more_writes (let more = writes-prefix acts (asked ∷ []) in omega (arith, most, more))
+    -- so many words by the earlier acts alone are enough
+    pub more_writes_before : SET + 1 ≤ writes acts → MayFollowOn f p acts op WriteMore
+    more_writes_before most = more_writes (let more = writes-prefix acts (asked ∷ []) in omega (arith, most, more))
 
-  pub more_nodes : f.origin.shape.nodes + 1 ≤ nodes (acts ++ asked ∷ []) → Exceeds f acts op
-  more_nodes most = exceeds (λ few. let is = few.2 in absurd (omega (arith, most, is)))
+    pub more_nodes : NeedMore p (acts ++ asked ∷ []) → MayFollowOn f p acts op (NeedMore p)
+    more_nodes most = goes_on (NeedMore p) most
 
--- a certificate that stands after others tells what its operation answers
-module _ (f : FieldView) (cs : List Certificate) (c : Certificate) (right : IsRight (start_of f) (certificate_acts (cs ++ c ∷ []))) where
-  pub replies : c.reply ≡ answer (run (start_of f) (certificate_acts cs)) c.op
-  replies = right_last (start_of f) (certificate_acts cs) (act_of c.op c.reply) (subst (IsRight (start_of f)) (acts_push cs c) right)
+  -- a certificate that stands after others tells what its operation answers
+  module _ (cs : List Certificate) (c : Certificate) (right : IsRight s (certificate_acts (cs ++ c ∷ []))) where
+    pub replies : c.reply ≡ answer (run s (certificate_acts cs)) c.op
+    replies = right_last s (certificate_acts cs) (act_of c.op c.reply) (subst (IsRight s) (acts_push cs c) right)
 
-  pub asked_is : certificate_acts (cs ++ c ∷ []) ≡ certificate_acts cs ++ act_of c.op (answer (run (start_of f) (certificate_acts cs)) c.op) ∷ []
-  asked_is = acts_push cs c ∙ ap (λ reply. certificate_acts cs ++ act_of c.op reply ∷ []) replies
+    pub asked_is : certificate_acts (cs ++ c ∷ []) ≡ certificate_acts cs ++ act_of c.op (answer (run s (certificate_acts cs)) c.op) ∷ []
+    asked_is = acts_push cs c ∙ ap (λ reply. certificate_acts cs ++ act_of c.op reply ∷ []) replies
 
-  module _ (before : IsRight (start_of f) (certificate_acts cs)) (h : LogicalHeap) (stand : StandFrom h (cs ++ c ∷ [])) (few : All RecordsOne (cs ++ c ∷ []))
-      (words : List ℕ) (differ : AllPairs ◌≢◌ words) (many : length words ≡ SET + 1) where
-    -- that it and the others record so many words
-    pub recorded_exceed : All (Contains (recorded_words (cs ++ c ∷ []))) words → Exceeds f (certificate_acts cs) c.op
-    recorded_exceed all =
-        let least = recorded_are_few h (cs ++ c ∷ []) stand few words differ all in
-        more_reads f (certificate_acts cs) before c.op (subst (λ acts. SET + 1 ≤ reads acts) asked_is (omega (arith, many, least)))
+    module _ (before : IsRight s (certificate_acts cs)) (h : LogicalHeap) (stand : StandFrom h (cs ++ c ∷ [])) (few : All RecordsOne (cs ++ c ∷ []))
+        (words : List ℕ) (differ : AllPairs ◌≢◌ words) (many : length words ≡ SET + 1) where
+      -- that it and the others record so many words
+      pub recorded_exceed : All (Contains (recorded_words (cs ++ c ∷ []))) words
+          → MayFollowOn f p (certificate_acts cs) c.op ReadMore
+      recorded_exceed all =
+          let least = recorded_are_few h (cs ++ c ∷ []) stand few words differ all in
+          more_reads (certificate_acts cs) before c.op (subst (λ acts. SET < reads acts) asked_is (omega (arith, many, least)))
 
-    -- or change so many
-    pub changed_exceed : AllCharged h.words.shape [] (cs ++ c ∷ []) → All (Contains (changed_words (cs ++ c ∷ []))) words → Exceeds f (certificate_acts cs) c.op
-    changed_exceed charged all =
-        let least = written_are_few h (cs ++ c ∷ []) stand few charged words differ all in
-        more_writes f (certificate_acts cs) before c.op (subst (λ acts. SET + 1 ≤ writes acts) asked_is (omega (arith, many, least)))
+      -- or change so many
+      pub changed_exceed : AllCharged h.words.shape [] (cs ++ c ∷ []) → All (Contains (changed_words (cs ++ c ∷ []))) words
+          → MayFollowOn f p (certificate_acts cs) c.op WriteMore
+      changed_exceed charged all =
+          let least = written_are_few h (cs ++ c ∷ []) stand few charged words differ all in
+          more_writes (certificate_acts cs) before c.op (subst (λ acts. SET < writes acts) asked_is (omega (arith, many, least)))

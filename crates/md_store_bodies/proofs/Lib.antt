@@ -1,11 +1,11 @@
 pub mod AllLanes
-pub mod FreshHeaps
+pub mod LoneHeaps
 pub mod Charging
 pub mod Exceeding
 pub mod TakenNodes
+pub mod Reaching
 pub mod WrittenWords
 pub mod ListRefusals
 pub mod QueueRefusals
 pub mod Runs
 pub mod ListBegun
-pub mod BreakingOff

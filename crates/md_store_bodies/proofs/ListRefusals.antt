@@ -1,4 +1,4 @@
--- An operation of a list that was refused by a limit, in the first transaction of a fresh store, exceeds the limits.
+-- An operation of a list that was refused by a limit reaches it, and exceeds it if its pass holds all lanes.
 use Rattle.std.proofs.Common.{cond, ◌≡◌, ◌≢◌, ◌⊎◌, ◌≤◌, ◌+◌, ◌++◌, ◌==◌, ◌∙◌, ℕ, true, List, [], ◌∷◌, map, length, refl, sym, ap, subst, inl, inr, ⊎_elim, eq-eqb, append_assoc, Option, Some, None, arith}
 use Rattle.std.specs.Prelude.{is_none}
 use Rattle.std.specs.List.{All, Contains}
@@ -23,7 +23,7 @@ use Rattle.md_history.specs.declared.stops.Stop.TheVariants.{Limit as Limited}
 use Rattle.md_history.specs.Act.{act_of}
 use Rattle.md_history.specs.Counts.{added, nodes}
 use Rattle.md_history.specs.CountLaws.{nodes-append}
-use Rattle.md_history.specs.State.{IsRight, answer, map_at, run}
+use Rattle.md_history.specs.State.{IsRight, State, answer, map_at, run}
 use Rattle.md_machine.specs.declared.attempt.Read.{Read}
 use Rattle.md_machine.specs.declared.certificate.Certificate.{Certificate}
 use Rattle.md_machine.specs.declared.certificate.NewNode.{NewNode}
@@ -50,15 +50,14 @@ use Rattle.md_list.specs.Walking.{IsHeadOf}
 use Rattle.md_store_law.specs.Store.{store}
 use Rattle.md_store_counts.specs.Few.{AllCharged, RecordsOne, StandFrom, TidyCharged, certificate_acts, placed_nexts, read_before, recorded_by, recorded_words, words_of_changes}
 use Rattle.md_store_counts.proofs.Appending.{charged_more}
-use Rattle.md_store_counts.proofs.Placing.{placed_are_counted}
 use Rattle.md_store_counts.proofs.Writing.{tidied_are_few}
-use Rattle.md_store_bodies.specs.Counted.{Exceeds, IsCountLimit, HasCountedCertificates}
-use Rattle.md_store_bodies.specs.Store.{IsFresh, IsPassOf, start_of}
+use Rattle.md_store_bodies.specs.Counted.{Exceeds, HasCountedCertificates, MayFollow, MayFollowOn, MayGoOn, NeedMore, ReadMore, Reaches, WriteMore}
+use Rattle.md_store_bodies.specs.Store.{HasAllLanes, IsPassOf, nodes_in, taken_by}
 use Rattle.md_store_bodies.proofs.Charging.{counted_later, list_charged, node_placed, nodes_more, reads_before, reads_more}
 use Rattle.md_store_bodies.proofs.Exceeding.{changed_exceed, more_nodes, more_writes_before, one_more_word, recorded_exceed, replies}
-use Rattle.md_store_bodies.proofs.TakenNodes.{taken_enough}
+use Rattle.md_store_bodies.proofs.Reaching.{many_nodes, new_node_needed, node_needed, nodes_then, one_added, reads_reached}
 use Rattle.md_store_bodies.proofs.WrittenWords.{all_named, with_word, words_differ}
-use Rattle.md_store_bodies.proofs.FreshHeaps.{acts_right, fresh_heap, heap_seen, heap_shape, known_of, next_right, next_stands, stand_from, tidies_stand}
+use Rattle.md_store_bodies.proofs.LoneHeaps.{acts_right, heap_seen, heap_shape, heap_state, known_of, lone_heap, may_follow, next_right, next_stands, stand_from, tidies_stand}
 
 -- a word of which nothing was read is that of no read
 unread_word : (rs : List Read) (word : ℕ) → content_read rs word ≡ None → (r : Read) → Contains rs r → r.word ≢ word
@@ -79,35 +78,32 @@ no_value : (o : Option ℕ) → Value None ≡ Value o → o ≡ None
 no_value None is = refl
 no_value (Some v) is = absurd (cc is)
 
-one_node : (a : Act) → added a.op a.reply ≡ true → nodes (a ∷ []) ≡ 1
-one_node a is =
-    let sum = sum_by-cons (λ (x : Act). cond (added x.op x.reply) 1 0) a [] in
-    let one : cond (added a.op a.reply) 1 0 ≡ 1 = ap (λ b. cond b 1 0) is in
-    sum ∙ ap (λ n. n + 0) one
-
-one_added : (acts : List Act) (a : Act) → added a.op a.reply ≡ true → nodes (acts ++ a ∷ []) ≡ nodes acts + 1
-one_added acts a is = nodes-append acts (a ∷ []) ∙ ap (λ n. nodes acts + n) (one_node a is)
-
-module _ (f : FieldView) (p : PassState) (of : IsPassOf f p) (fresh : IsFresh p) (tag : ℕ) (start t : TxnState) (begins : BeginsTransaction p tag start)
+module _ (f : FieldView) (p : PassState) (of : IsPassOf f p) (all : HasAllLanes f p) (tag : ℕ) (start t : TxnState) (begins : BeginsTransaction p tag start)
     (later : IsLater start t) (field : t.field ≡ f) (cs : List Certificate) (counted : HasCountedCertificates t cs) where
   abbrev H : LogicalHeap
-  H = fresh_heap f p of fresh tag start t begins later field cs counted.going
+  H = lone_heap f p of all tag start t begins later field cs counted.going
 
-  before_right : IsRight (start_of f) (certificate_acts cs)
-  before_right = acts_right f p of fresh tag start t begins later field cs counted.going
+  abbrev S : State
+  S = heap_state f p of all tag start t begins later field cs counted.going
+
+  follow : (made : List Act) → IsRight S made → MayFollow f p made
+  follow = may_follow f p of all tag start t begins later field cs counted.going
+
+  before_right : IsRight S (certificate_acts cs)
+  before_right = acts_right f p of all tag start t begins later field cs counted.going
 
   -- a certificate that would stand does so
   would_stand : (map key : ℕ) (op : Op) (reply : Reply) (word : ℕ) (seen : Seen) (c : Certificate) → WouldStand store t cs map key op reply word seen c
       → StandFrom H (cs ++ c ∷ [])
-  would_stand map key op reply word seen c w = next_stands f p of fresh tag start t begins later field cs counted.going c w.certifies w.tidies
-      (known_of f p of fresh tag start t begins later field cs counted.going (λ u h. HasSeen u h word seen → StandsNext store cs c u h) w.stand
-      (heap_seen f p of fresh tag start t begins later field cs counted.going word seen w.gave))
+  would_stand map key op reply word seen c w = next_stands f p of all tag start t begins later field cs counted.going c w.certifies w.tidies
+      (known_of f p of all tag start t begins later field cs counted.going (λ u h. HasSeen u h word seen → StandsNext store cs c u h) w.stand
+      (heap_seen f p of all tag start t begins later field cs counted.going word seen w.gave))
 
-  right_next : (c : Certificate) → StandFrom H (cs ++ c ∷ []) → IsRight (start_of f) (certificate_acts (cs ++ c ∷ []))
-  right_next = next_right f p of fresh tag start t begins later field cs counted.going
+  right_next : (c : Certificate) → StandFrom H (cs ++ c ∷ []) → IsRight S (certificate_acts (cs ++ c ∷ []))
+  right_next = next_right f p of all tag start t begins later field cs counted.going
 
   -- a word to record, if as many are recorded as a set holds
-  pub list_reads : (map_of key : ℕ) (op : Op) → OneMoreRead store t cs map_of key op → length t.reads ≡ SET → Exceeds f (certificate_acts cs) op
+  pub list_reads : (map_of key : ℕ) (op : Op) → OneMoreRead store t cs map_of key op → length t.reads ≡ SET → MayFollowOn f p (certificate_acts cs) op ReadMore
   list_reads map_of key op n full =
       let w = n.would in
       let c = n.certificate in
@@ -118,8 +114,8 @@ module _ (f : FieldView) (p : PassState) (of : IsPassOf f p) (fresh : IsFresh p)
       let this : Contains (recorded_words (cs ++ c ∷ [])) n.word = subst (λ l. Contains l n.word) (sym (flat_map-append recorded_by cs (c ∷ [])))
       (Contains-append_right (recorded_words cs) (recorded_words (c ∷ [])) n.word
       (subst (λ (l : List WordValue). Contains (map (λ x. x.word) l ++ []) n.word) (sym n.recorded) (only n.word))) in
-      subst (Exceeds f (certificate_acts cs)) w.of.0
-      (recorded_exceed f cs c (right_next c stand) before_right H stand (all_push RecordsOne cs c counted.few (λ _. w.few))
+      subst (λ o. MayFollowOn f p (certificate_acts cs) o ReadMore) w.of.0
+      (recorded_exceed f p S follow cs c (right_next c stand) before_right H stand (all_push RecordsOne cs c counted.few (λ _. w.few))
       (map (λ (r : Read). r.word) t.reads ++ n.word ∷ []) words.0 (let many = words.1 in omega (arith, many, full))
       (All-append (Contains (recorded_words (cs ++ c ∷ []))) (map (λ (r : Read). r.word) t.reads) (n.word ∷ [])
       (all_of (Contains (recorded_words (cs ++ c ∷ []))) (map (λ (r : Read). r.word) t.reads)
@@ -127,7 +123,7 @@ module _ (f : FieldView) (p : PassState) (of : IsPassOf f p) (fresh : IsFresh p)
       (All-cons (Contains (recorded_words (cs ++ c ∷ []))) n.word [] this (All-nil (Contains (recorded_words (cs ++ c ∷ [])))))))
 
   -- a word to write
-  pub list_writes : (map_of key : ℕ) (op : Op) → OneMoreChange store t cs map_of key op → length t.slots ≡ SET → Exceeds f (certificate_acts cs) op
+  pub list_writes : (map_of key : ℕ) (op : Op) → OneMoreChange store t cs map_of key op → length t.slots ≡ SET → MayFollowOn f p (certificate_acts cs) op WriteMore
   list_writes map_of key op n full =
       let w = n.would in
       let c = n.certificate in
@@ -140,53 +136,52 @@ module _ (f : FieldView) (p : PassState) (of : IsPassOf f p) (fresh : IsFresh p)
       (list_charged t (read_before cs c) (placed_nexts (shape_in t) (cs ++ c ∷ [])) (reads_before t cs counted c)
       (nodes_more t t cs counted c (λ r among. inl among) counted.going n.nodes)
       (all_changes cs) c.tidy w.charged) in
-      subst (Exceeds f (certificate_acts cs)) w.of.0
-      (changed_exceed f cs c (right_next c stand) before_right H stand (all_push RecordsOne cs c counted.few (λ _. w.few))
+      subst (λ o. MayFollowOn f p (certificate_acts cs) o WriteMore) w.of.0
+      (changed_exceed f p S follow cs c (right_next c stand) before_right H stand (all_push RecordsOne cs c counted.few (λ _. w.few))
       (with_word t cs counted.going n.change.word) words.0 (let many = words.1 in omega (arith, many, full))
-      (subst (λ s. AllCharged s [] (cs ++ c ∷ [])) (sym (heap_shape f p of fresh tag start t begins later field cs counted.going)) charged)
+      (subst (λ s. AllCharged s [] (cs ++ c ∷ [])) (sym (heap_shape f p of all tag start t begins later field cs counted.going)) charged)
       (subst (λ l. All (Contains (words_of_changes l)) (with_word t cs counted.going n.change.word)) changes (all_named t cs counted.going n.change.word (n.change ∷ []) (only n.change.word))))
 
   -- a word to write, for an unlink
-  pub list_unlinks : (map_of bucket head : ℕ) → OneMoreUnlink store t cs map_of bucket head → length t.slots ≡ SET → (op : Op) → Exceeds f (certificate_acts cs) op
+  pub list_unlinks : (map_of bucket head : ℕ) → OneMoreUnlink store t cs map_of bucket head → length t.slots ≡ SET → (op : Op) → MayFollowOn f p (certificate_acts cs) op WriteMore
   list_unlinks map_of bucket head n full op =
       let ts = n.made ++ n.unlink ∷ [] in
       let words = words_differ t cs counted.going n.unlink.change.word n.unwritten in
-      let shape = heap_shape f p of fresh tag start t begins later field cs counted.going in
+      let shape = heap_shape f p of all tag start t begins later field cs counted.going in
       let order = counted.going.course.order
       ∙ ap (λ l. map (λ (x : NewNode). x.node) (all_nodes cs) ++ l) n.tidied.stored ∙ append-nil (map (λ (x : NewNode). x.node) (all_nodes cs)) in
       let changes : (all_changes cs ++ t.hand.changes) ++ n.unlink.change ∷ [] ≡ all_changes cs ++ changes_of_tidy ts =
       append_assoc (all_changes cs) t.hand.changes (n.unlink.change ∷ [])
       ∙ ap (λ l. all_changes cs ++ l) (ap (λ l. l ++ n.unlink.change ∷ []) (sym n.tidied.changes) ∙ sym (map-append (λ (x : TidyChange). x.change) n.made (n.unlink ∷ []))) in
-      let least = tidied_are_few H cs ts (stand_from f p of fresh tag start t begins later field cs counted.going) counted.few
+      let least = tidied_are_few H cs ts (stand_from f p of all tag start t begins later field cs counted.going) counted.few
       (subst (λ s. AllCharged s [] cs) (sym shape) counted.charged)
       (record {
         tidies = subst (λ s. All (store.tidies s) ts) (sym shape) n.tidies;
-        stand = tidies_stand f p of fresh tag start t begins later field cs counted.going ts
-            (known_of f p of fresh tag start t begins later field cs counted.going
+        stand = tidies_stand f p of all tag start t begins later field cs counted.going ts
+            (known_of f p of all tag start t begins later field cs counted.going
             (λ u h. HasSeen u h n.unlink.change.word n.seen → TidiesStandBy (after_wholes (found_by u h) cs) (after_wholes h cs) ts) n.stand
-            (heap_seen f p of fresh tag start t begins later field cs counted.going n.unlink.change.word n.seen n.gave));
+            (heap_seen f p of all tag start t begins later field cs counted.going n.unlink.change.word n.seen n.gave));
         charged = subst (λ s. TidyCharged s (recorded_words cs) (placed_nexts s cs) (all_changes cs) ts) (sym shape)
             (list_charged t (recorded_words cs) (placed_nexts (shape_in t) cs) counted.reads (node_placed (shape_in t) cs t.nodes order) (all_changes cs) ts n.charged);
       })
       (with_word t cs counted.going n.unlink.change.word) words.0
       (subst (λ l. All (Contains (words_of_changes l)) (with_word t cs counted.going n.unlink.change.word)) changes (all_named t cs counted.going n.unlink.change.word (n.unlink.change ∷ []) (only n.unlink.change.word))) in
-      more_writes_before f (certificate_acts cs) before_right op (let many = words.1 in omega (arith, many, full, least))
+      more_writes_before f p S follow (certificate_acts cs) before_right op (let many = words.1 in omega (arith, many, full, least))
 
-  -- a node, if a lane's worth of nodes was taken
-  pub list_nodes : (map_of key value : ℕ) → IsAbsent store t cs map_of key → length t.nodes ≡ length (all_nodes cs) → f.origin.shape.nodes ≤ length t.nodes
-      → Exceeds f (certificate_acts cs) (Insert map_of key value)
-  list_nodes map_of key value n many full =
+  -- a node, if the pass had no more nodes than the acts count
+  pub list_nodes : (map_of key value : ℕ) → IsAbsent store t cs map_of key → nodes_in p ≤ taken_by p + nodes (certificate_acts cs)
+      → MayFollowOn f p (certificate_acts cs) (Insert map_of key value) (NeedMore p)
+  list_nodes map_of key value n full =
       let w = n.would in
       let c = n.certificate in
       let stand = would_stand map_of key (Get map_of key) (Value None) n.word n.seen c w in
-      let state = run (start_of f) (certificate_acts cs) in
+      let state = run S (certificate_acts cs) in
       let absent : fin.get (map_at state map_of) key ≡ None = no_value (fin.get (map_at state map_of) key)
-      (sym w.of.1 ∙ replies f cs c (right_next c stand) ∙ ap (answer state) w.of.0) in
-      let placed = placed_are_counted H cs (stand_from f p of fresh tag start t begins later field cs counted.going) in
+      (sym w.of.1 ∙ replies f p S follow cs c (right_next c stand) ∙ ap (answer state) w.of.0) in
       let more : nodes (certificate_acts cs ++ act_of (Insert map_of key value) (answer state (Insert map_of key value)) ∷ []) ≡ nodes (certificate_acts cs) + 1 =
       nodes-append (certificate_acts cs) (act_of (Insert map_of key value) (answer state (Insert map_of key value)) ∷ [])
       ∙ ap (λ o. nodes (certificate_acts cs) + nodes (act_of (Insert map_of key value) (Flag (is_none o)) ∷ [])) absent in
-      more_nodes f (certificate_acts cs) before_right (Insert map_of key value) (omega (arith, full, placed, many, more))
+      more_nodes f p S follow (certificate_acts cs) before_right (Insert map_of key value) (omega (arith, full, more))
 
 -- why an operation of a list was refused for want of nodes: it takes one in any case, or it inserts a key that is absent
 abbrev pub WantsNode : (s u : TxnState) (head key : ℕ) (op : ℕ → Op) → Type 0
@@ -205,78 +200,79 @@ pub needs_slot : {s u : TxnState} {head key : ℕ} {op : ℕ → Op} → IsRefus
     → IsRefused store s u (Limited Writes) (NeedsSlot store s head key op)
 needs_slot r = record { before = r.before; on = r.on; reads = r.reads; same = r.same; needs = λ map_of is cs going. inl (r.needs map_of is cs going) }
 
-module _ (p : PassState) (s u : TxnState) (of : IsPassOf s.field p) (fresh : IsFresh p) (tag : ℕ) (start : TxnState) (begins : BeginsTransaction p tag start)
+module _ (p : PassState) (s u : TxnState) (of : IsPassOf s.field p) (tag : ℕ) (start : TxnState) (begins : BeginsTransaction p tag start)
     (later : IsLater start s) (cs : List Certificate) (counted : HasCountedCertificates s cs) (stored : s.hand.stored ≡ []) (why : Stop) (cause : HasCause u why)
     -- its nodes are those that were taken
     (nodes_are : u.nodes ≡ map (own_node (shape_in u) u.pass) (taken_since u.began u.pass)) (on : GoesOn store s u) where
-  abbrev over : (x : TxnState) → GoesOn store s x → IsLater start x
-  over x goes = later_over start s x later goes.later
+  -- an operation of a list reaches the limit
+  pub list_reaches : (head key : ℕ) (op : ℕ → Op) (map_of more : ℕ) → ListLimits s u head key op why → more ≤ 2 → length u.reads ≤ length s.reads + more
+      → Reaches p (certificate_acts cs) (op map_of) why
+  list_reaches head key op map_of more limits two few = record {
+    reads = reads_reached p s u of tag start begins later cs counted stored why cause nodes_are on more two few;
+    nodes = λ is. ⊎_elim
+        (λ any. let r = any.1 in
+        new_node_needed p s u of tag start begins later cs counted stored why cause nodes_are on (op map_of) (any.0 map_of) (ap (λ (y : TxnState). y.nodes) r.same ∙ r.needs) is)
+        (λ one. let r = one.2 in
+        subst (λ o. MayGoOn (certificate_acts cs) o (NeedMore p)) (sym (one.1 map_of))
+        (node_needed p s u of tag start begins later cs counted stored why cause nodes_are on (Insert map_of key one.0) (Flag true) tt refl
+        (ap (λ (y : TxnState). length y.nodes) r.same ∙ ap length r.needs.0) is))
+        (limits.nodes is);
+  }
 
-  -- a lane's worth of nodes was taken, if none is left
-  pub many_nodes : why ≡ Limited Nodes → s.field.origin.shape.nodes ≤ length u.nodes
-  many_nodes is =
-      let all = over u on in
-      let lane = (attempt_in start).desc in
-      let prepared = (on.going cs counted.going).prepared in
-      let shape : u.pass.shape ≡ s.field.origin.shape = prepared.has.of.shape ∙ ap (λ (f : FieldView). f.origin.shape) on.later.field in
-      let held : Contains u.pass.view.lanes lane = subst (λ l. Contains l lane) (sym (all.lanes ∙ begins.same.lanes)) begins.lane.lowest.held in
-      let none : (share_at u.began.shares lane).nodes_taken ≡ 0 = ap (λ (x : PassState). (share_at x.shares lane).nodes_taken) all.began
-      ∙ sym (begins.began lane) ∙ begins.nodes_taken lane ∙ (fresh.unused lane).nodes in
-      let enough = taken_enough u.began u.pass lane held none (cause.nodes is) in
-      let count = ap length nodes_are ∙ length-map (taken_since u.began u.pass) (own_node (shape_in u) u.pass) in
-      let is_shape = ap (λ (x : Shape). x.nodes) shape in
-      omega (arith, enough, count, is_shape)
+  module _ (all : HasAllLanes s.field p) where
+    abbrev over : (x : TxnState) → GoesOn store s x → IsLater start x
+    over x goes = later_over start s x later goes.later
 
-  pub nodes_then : length s.nodes ≡ length (all_nodes cs)
-  nodes_then =
-      let order = counted.going.course.order
-      ∙ ap (λ l. map (λ (x : NewNode). x.node) (all_nodes cs) ++ l) stored ∙ append-nil (map (λ (x : NewNode). x.node) (all_nodes cs)) in
-      sym (length-map s.nodes (λ (x : OwnNode). x.node)) ∙ ap length order ∙ length-map (all_nodes cs) (λ (x : NewNode). x.node)
+    abbrev S_at : State
+    S_at = heap_state s.field p of all tag start s begins later refl cs counted.going
 
-  -- an operation that takes a node in any case
-  pub new_node_exceeds : (op : Op) → ((r : Reply) → added op r ≡ true) → u.nodes ≡ s.nodes → why ≡ Limited Nodes → Exceeds s.field (certificate_acts cs) op
-  new_node_exceeds op adds same is =
-      let enough = many_nodes is in
-      let then = nodes_then in
-      let counts = ap length same in
-      let placed = placed_are_counted (fresh_heap s.field p of fresh tag start s begins later refl cs counted.going) cs
-      (stand_from s.field p of fresh tag start s begins later refl cs counted.going) in
-      let state = run (start_of s.field) (certificate_acts cs) in
-      let more = one_added (certificate_acts cs) (act_of op (answer state op)) (adds (answer state op)) in
-      more_nodes s.field (certificate_acts cs) (acts_right s.field p of fresh tag start s begins later refl cs counted.going) op
-      (omega (arith, enough, then, counts, placed, more))
+    -- an operation that takes a node in any case
+    pub new_node_exceeds : (op : Op) → ((r : Reply) → added op r ≡ true) → u.nodes ≡ s.nodes → why ≡ Limited Nodes
+        → MayFollowOn s.field p (certificate_acts cs) op (NeedMore p)
+    new_node_exceeds op adds same is =
+        let enough = many_nodes p s u of tag start begins later cs counted stored why cause nodes_are on is in
+        let then = nodes_then p s u of tag start begins later cs counted stored why cause nodes_are on in
+        let counts = ap length same in
+        let state = run S_at (certificate_acts cs) in
+        let more = one_added (certificate_acts cs) (act_of op (answer state op)) (adds (answer state op)) in
+        more_nodes s.field p S_at (may_follow s.field p of all tag start s begins later refl cs counted.going) (certificate_acts cs)
+        (acts_right s.field p of all tag start s begins later refl cs counted.going) op
+        (omega (arith, enough, then, counts, more))
 
-  -- an insert of an absent key
-  insert_exceeds : (head key : ℕ) (op : ℕ → Op) (map_of : ℕ) → IsHeadOf (shape_in s) map_of key head → why ≡ Limited Nodes → (value : ℕ)
-      → op map_of ≡ Insert map_of key value → IsRefused store s u (Limited Nodes) (NeedsNode store s head key) → Exceeds s.field (certificate_acts cs) (op map_of)
-  insert_exceeds head key op map_of is_head is value op_is r =
-      let x = r.before in
-      let nodes_x : x.nodes ≡ u.nodes = ap (λ (y : TxnState). y.nodes) (sym r.same) in
-      let same = ap length r.needs.0 in
-      let enough = many_nodes is in
-      let counts = ap length nodes_x in
-      let then = nodes_then in
-      subst (Exceeds s.field (certificate_acts cs)) (sym op_is)
-      (list_nodes s.field p of fresh tag start x begins (over x r.on) r.on.later.field cs (counted_later s x cs counted r.on r.reads) map_of key value
-      (r.needs.1 map_of is_head cs counted.going) (same ∙ then) (omega (arith, enough, counts)))
+    -- an insert of an absent key
+    insert_exceeds : (head key : ℕ) (op : ℕ → Op) (map_of : ℕ) → IsHeadOf (shape_in s) map_of key head → why ≡ Limited Nodes → (value : ℕ)
+        → op map_of ≡ Insert map_of key value → IsRefused store s u (Limited Nodes) (NeedsNode store s head key)
+        → MayFollowOn s.field p (certificate_acts cs) (op map_of) (NeedMore p)
+    insert_exceeds head key op map_of is_head is value op_is r =
+        let x = r.before in
+        let nodes_x : x.nodes ≡ u.nodes = ap (λ (y : TxnState). y.nodes) (sym r.same) in
+        let same = ap length r.needs.0 in
+        let enough = many_nodes p s u of tag start begins later cs counted stored why cause nodes_are on is in
+        let then = nodes_then p s u of tag start begins later cs counted stored why cause nodes_are on in
+        let counts = ap length nodes_x in
+        subst (λ o. MayFollowOn s.field p (certificate_acts cs) o (NeedMore p)) (sym op_is)
+        (list_nodes s.field p of all tag start x begins (over x r.on) r.on.later.field cs (counted_later s x cs counted r.on r.reads) map_of key value
+        (r.needs.1 map_of is_head cs counted.going) (omega (arith, enough, same, counts, then)))
 
-  -- an operation of a list
-  pub list_exceeds : (head key : ℕ) (op : ℕ → Op) (map_of : ℕ) → IsHeadOf (shape_in s) map_of key head → ListLimits s u head key op why → IsCountLimit why
-      → Exceeds s.field (certificate_acts cs) (op map_of)
-  list_exceeds head key op map_of is_head limits (inl reads) =
-      let r = limits.reads reads in
-      let x = r.before in
-      list_reads s.field p of fresh tag start x begins (over x r.on) r.on.later.field cs (counted_later s x cs counted r.on r.reads) map_of key (op map_of)
-      (r.needs map_of is_head cs counted.going) (ap (λ (y : TxnState). length y.reads) (sym r.same) ∙ cause.reads reads)
-  list_exceeds head key op map_of is_head limits (inr (inl writes)) =
-      let r = limits.writes writes in
-      let x = r.before in
-      let counted_x = counted_later s x cs counted r.on r.reads in
-      let full = ap (λ (y : TxnState). length y.slots) (sym r.same) ∙ cause.writes writes in ⊎_elim
-      (λ unlink. list_unlinks s.field p of fresh tag start x begins (over x r.on) r.on.later.field cs counted_x map_of (bucket_of (shape_in s) key) head unlink full (op map_of))
-      (λ change. list_writes s.field p of fresh tag start x begins (over x r.on) r.on.later.field cs counted_x map_of key (op map_of) change full)
-      (r.needs map_of is_head cs counted.going)
-  list_exceeds head key op map_of is_head limits (inr (inr nodes)) = ⊎_elim
-      (λ any. let r = any.1 in new_node_exceeds (op map_of) (any.0 map_of) (ap (λ (y : TxnState). y.nodes) r.same ∙ r.needs) nodes)
-      (λ one. insert_exceeds head key op map_of is_head nodes one.0 (one.1 map_of) one.2)
-      (limits.nodes nodes)
+    -- and an operation of a list exceeds it
+    pub list_exceeds : (head key : ℕ) (op : ℕ → Op) (map_of : ℕ) → IsHeadOf (shape_in s) map_of key head → ListLimits s u head key op why
+        → Exceeds s.field p (certificate_acts cs) (op map_of) why
+    list_exceeds head key op map_of is_head limits = record {
+      reads = λ reads.
+          let r = limits.reads reads in
+          let x = r.before in
+          list_reads s.field p of all tag start x begins (over x r.on) r.on.later.field cs (counted_later s x cs counted r.on r.reads) map_of key (op map_of)
+          (r.needs map_of is_head cs counted.going) (ap (λ (y : TxnState). length y.reads) (sym r.same) ∙ cause.reads reads);
+      writes = λ writes.
+          let r = limits.writes writes in
+          let x = r.before in
+          let counted_x = counted_later s x cs counted r.on r.reads in
+          let full = ap (λ (y : TxnState). length y.slots) (sym r.same) ∙ cause.writes writes in ⊎_elim
+          (λ unlink. list_unlinks s.field p of all tag start x begins (over x r.on) r.on.later.field cs counted_x map_of (bucket_of (shape_in s) key) head unlink full (op map_of))
+          (λ change. list_writes s.field p of all tag start x begins (over x r.on) r.on.later.field cs counted_x map_of key (op map_of) change full)
+          (r.needs map_of is_head cs counted.going);
+      nodes = λ nodes. ⊎_elim
+          (λ any. let r = any.1 in new_node_exceeds (op map_of) (any.0 map_of) (ap (λ (y : TxnState). y.nodes) r.same ∙ r.needs) nodes)
+          (λ one. insert_exceeds head key op map_of is_head nodes one.0 (one.1 map_of) one.2)
+          (limits.nodes nodes);
+    }

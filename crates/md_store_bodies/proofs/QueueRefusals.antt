@@ -1,5 +1,5 @@
--- An operation of a queue that was refused by a limit, in the first transaction of a fresh store, exceeds the limits.
-use Rattle.std.proofs.Common.{Bool, ◌≡◌, ◌≤◌, ◌++◌, ◌⊎◌, ◌∙◌, ℕ, true, false, List, [], ◌∷◌, map, length, refl, sym, ap, subst, inl, inr, ⊎_elim, append_assoc, Option, None, take, le-ltb, lt-ltb, arith}
+-- An operation of a queue that was refused by a limit reaches it, and exceeds it if its pass holds all lanes.
+use Rattle.std.proofs.Common.{Bool, ◌≡◌, ◌≤◌, ◌+◌, ◌++◌, ◌⊎◌, ◌∙◌, ℕ, true, false, List, [], ◌∷◌, map, length, refl, sym, ap, subst, inl, inr, ⊎_elim, append_assoc, Option, None, take, le-ltb, lt-ltb, arith}
 use Rattle.std.specs.Prelude.{nat_eq, nat_lt}
 use Rattle.std.specs.List.{All, Contains, count_by, filter_map}
 use Rattle.std.proofs.lemmas.Bool.{cases_lt, false≢true}
@@ -41,12 +41,13 @@ use Rattle.md_store_counts.proofs.Appending.{charged_more}
 use Rattle.md_store_counts.proofs.Placing.{one_if}
 use Rattle.md_store_counts.proofs.Recording.{recorded_are_few}
 use Rattle.md_store_counts.proofs.Writing.{tidied_are_few}
-use Rattle.md_store_bodies.specs.Counted.{Exceeds, IsCountLimit, HasCountedCertificates}
-use Rattle.md_store_bodies.specs.Store.{IsFresh, IsPassOf, start_of}
+use Rattle.md_store_bodies.specs.Counted.{Exceeds, HasCountedCertificates, MayFollow, MayFollowOn, ReadMore, Reaches, WriteMore}
+use Rattle.md_store_bodies.specs.Store.{HasAllLanes, IsPassOf}
 use Rattle.md_store_bodies.proofs.Charging.{counted_at, queue_charged, queue_reads, reads_more}
 use Rattle.md_store_bodies.proofs.Exceeding.{asked_is, changed_exceed, more_reads, more_writes_before, one_more_word}
-use Rattle.md_store_bodies.proofs.FreshHeaps.{acts_right, fresh_heap, heap_shape, holds, is_heap, next_right, next_stands, stand_from, tidies_stand}
+use Rattle.md_store_bodies.proofs.LoneHeaps.{acts_right, heap_shape, heap_state, holds, is_heap, lone_heap, may_follow, next_right, next_stands, stand_from, tidies_stand}
 use Rattle.md_store_bodies.proofs.ListRefusals.{new_node_exceeds}
+use Rattle.md_store_bodies.proofs.Reaching.{new_node_needed, reads_reached}
 use Rattle.md_store_bodies.proofs.WrittenWords.{all_named, with_word, words_differ}
 
 -- an operation on a queue counts no more reads than another one, each with its right reply
@@ -101,14 +102,22 @@ pub record QueueLimits (s u : TxnState) (cs : List Certificate) (queue : ℕ) (o
   pub writes : why ≡ Limited Writes → BeganAlone s → MoveRefused store s u cs queue ⊎ ChangeRefused store s u cs op
   pub nodes : why ≡ Limited Nodes → ((r : Reply) → added op r ≡ true) × (u.nodes ≡ s.nodes)
 
-module _ (p : PassState) (s u : TxnState) (of : IsPassOf s.field p) (fresh : IsFresh p) (tag : ℕ) (start : TxnState) (begins : BeginsTransaction p tag start)
+-- an operation of a queue reaches the limit
+pub queue_reaches : (p : PassState) (s u : TxnState) (of : IsPassOf s.field p) (tag : ℕ) (start : TxnState) (begins : BeginsTransaction p tag start)
+    (later : IsLater start s) (cs : List Certificate) (counted : HasCountedCertificates s cs) (stored : s.hand.stored ≡ []) (why : Stop) (cause : HasCause u why)
+    (nodes_are : u.nodes ≡ map (own_node (shape_in u) u.pass) (taken_since u.began u.pass)) (on : GoesOn store s u)
+    (queue more : ℕ) (op : Op) (Asks : Op → Type 0) → QueueLimits s u cs queue op Asks why → more ≤ 2 → length u.reads ≤ length s.reads + more
+    → Reaches p (certificate_acts cs) op why
+queue_reaches p s u of tag start begins later cs counted stored why cause nodes_are on queue more op Asks limits two few = record {
+  reads = reads_reached p s u of tag start begins later cs counted stored why cause nodes_are on more two few;
+  nodes = λ is. let n = limits.nodes is in new_node_needed p s u of tag start begins later cs counted stored why cause nodes_are on op n.0 n.1 is;
+}
+
+module _ (p : PassState) (s u : TxnState) (of : IsPassOf s.field p) (all : HasAllLanes s.field p) (tag : ℕ) (start : TxnState) (begins : BeginsTransaction p tag start)
     (later : IsLater start s) (cs : List Certificate) (counted : HasCountedCertificates s cs) (stored : s.hand.stored ≡ []) (none : s.stop ≡ None) (why : Stop) (cause : HasCause u why)
     (nodes_are : u.nodes ≡ map (own_node (shape_in u) u.pass) (taken_since u.began u.pass)) (on : GoesOn store s u) where
   alone : BeganAlone s
-  alone = record { unstopped = none; alone = holds s.field p of fresh tag start s begins later refl cs counted.going }
-
-  right : IsRight (start_of s.field) (certificate_acts cs)
-  right = acts_right s.field p of fresh tag start s begins later refl cs counted.going
+  alone = record { unstopped = none; alone = holds s.field p of all tag start s begins later refl cs counted.going }
 
   -- the state in which a call was refused
   module _ (v : TxnState) (going : IsGoing store v cs) (later_v : IsLater s v) where
@@ -116,22 +125,32 @@ module _ (p : PassState) (s u : TxnState) (of : IsPassOf s.field p) (fresh : IsF
     over = later_over start s v later later_v
 
     abbrev H : LogicalHeap
-    H = fresh_heap s.field p of fresh tag start v begins over later_v.field cs going
+    H = lone_heap s.field p of all tag start v begins over later_v.field cs going
 
     heap_of : IsHeapOf store v H
-    heap_of = is_heap s.field p of fresh tag start v begins over later_v.field cs going
+    heap_of = is_heap s.field p of all tag start v begins over later_v.field cs going
 
     would_stand : (c : Certificate) → WouldStand store v cs H c → StandFrom H (cs ++ c ∷ [])
-    would_stand c w = next_stands s.field p of fresh tag start v begins over later_v.field cs going c w.certifies w.tidies w.stands
+    would_stand c w = next_stands s.field p of all tag start v begins over later_v.field cs going c w.certifies w.tidies w.stands
 
     few_more : (c : Certificate) → is_of_map c.op ≡ false → All RecordsOne (cs ++ c ∷ [])
     few_more c other = all_push RecordsOne cs c counted.few (λ is. absurd (false≢true (sym other ∙ is)))
+
+    abbrev S : State
+    S = heap_state s.field p of all tag start v begins over later_v.field cs going
+
+    follow : (made : List Act) → IsRight S made → MayFollow s.field p made
+    follow = may_follow s.field p of all tag start v begins over later_v.field cs going
+
+    right : IsRight S (certificate_acts cs)
+    right = acts_right s.field p of all tag start v begins over later_v.field cs going
 
     shape_is : shape_in v ≡ shape_in s
     shape_is = ap (λ (f : FieldView). f.origin.shape) later_v.field
 
   -- a word to record
-  reads_exceed : (op : Op) (Asks : Op → Type 0) → ((o : Op) → Asks o → AsksLess o op) → ReadRefused store s u cs Asks → why ≡ Limited Reads → Exceeds s.field (certificate_acts cs) op
+  reads_exceed : (op : Op) (Asks : Op → Type 0) → ((o : Op) → Asks o → AsksLess o op) → ReadRefused store s u cs Asks → why ≡ Limited Reads
+      → MayFollowOn s.field p (certificate_acts cs) op ReadMore
   reads_exceed op Asks less (v, was, full) is =
       let would = full.would (H v was.going was.later) (heap_of v was.going was.later) in
       let c = would.certificate in
@@ -148,30 +167,31 @@ module _ (p : PassState) (s u : TxnState) (of : IsPassOf s.field p) (fresh : IsF
       (all_of P (map (λ (r : Read). r.word) v.reads)
       (λ word among. let r = in_map (λ (x : Read). x.word) v.reads word among in subst P r.2 (read_of r.0 r.1)))
       (All-cons P full.word [] this (All-nil P))) in
-      let same = asked_is s.field cs c (next_right s.field p of fresh tag start v begins (over v was.going was.later) was.later.field cs was.going c stand) in
+      let same = asked_is s.field p (S v was.going was.later) (follow v was.going was.later) cs c (next_right s.field p of all tag start v begins (over v was.going was.later) was.later.field cs was.going c stand) in
       let same_reads = ap reads same in
-      let state = run (start_of s.field) (certificate_acts cs) in
+      let state = run (S v was.going was.later) (certificate_acts cs) in
       let more = asks.1 (certificate_acts cs) state in
       let many = words.1 in
       let set = ap (λ (y : TxnState). length y.reads) (sym was.same) ∙ cause.reads is in
-      more_reads s.field (certificate_acts cs) right op (omega (arith, least, same_reads, more, many, set))
+      more_reads s.field p (S v was.going was.later) (follow v was.going was.later) (certificate_acts cs) (right v was.going was.later) op (omega (arith, least, same_reads, more, many, set))
 
   -- a word to write, for a move of the tail
-  move_exceeds : (queue : ℕ) (op : Op) → MoveRefused store s u cs queue → why ≡ Limited Writes → Exceeds s.field (certificate_acts cs) op
+  move_exceeds : (queue : ℕ) (op : Op) → MoveRefused store s u cs queue → why ≡ Limited Writes
+      → MayFollowOn s.field p (certificate_acts cs) op WriteMore
   move_exceeds queue op (v, was, m) is =
       let ts = m.earlier ++ m.move ∷ [] in
       let counted_v = counted_at s v cs counted was.going was.later m.reads in
       let words = words_differ v cs was.going m.move.change.word m.unwritten in
-      let shape = heap_shape s.field p of fresh tag start v begins (over v was.going was.later) was.later.field cs was.going in
+      let shape = heap_shape s.field p of all tag start v begins (over v was.going was.later) was.later.field cs was.going in
       let changes : (all_changes cs ++ v.hand.changes) ++ m.move.change ∷ [] ≡ all_changes cs ++ changes_of_tidy ts =
       append_assoc (all_changes cs) v.hand.changes (m.move.change ∷ [])
       ∙ ap (λ l. all_changes cs ++ l) (ap (λ l. l ++ m.move.change ∷ []) (sym m.tidied.changes) ∙ sym (map-append (λ (x : TidyChange). x.change) m.earlier (m.move ∷ []))) in
       let least = tidied_are_few (H v was.going was.later) cs ts
-      (stand_from s.field p of fresh tag start v begins (over v was.going was.later) was.later.field cs was.going) counted.few
+      (stand_from s.field p of all tag start v begins (over v was.going was.later) was.later.field cs was.going) counted.few
       (subst (λ k. AllCharged k [] cs) (sym shape) counted_v.charged)
       (record {
         tidies = subst (λ k. All (store.tidies k) ts) (sym shape) (all_push (store.tidies (shape_in v)) m.earlier m.move m.tidied.tidies m.tidies);
-        stand = tidies_stand s.field p of fresh tag start v begins (over v was.going was.later) was.later.field cs was.going ts
+        stand = tidies_stand s.field p of all tag start v begins (over v was.going was.later) was.later.field cs was.going ts
             (m.would (H v was.going was.later) (heap_of v was.going was.later));
         charged = subst (λ k. TidyCharged k (recorded_words cs) (placed_nexts k cs) (all_changes cs) ts) (sym shape)
             (queue_charged v (recorded_words cs) (placed_nexts (shape_in v) cs) counted_v.reads (all_changes cs) ts m.charged);
@@ -182,10 +202,11 @@ module _ (p : PassState) (s u : TxnState) (of : IsPassOf s.field p) (fresh : IsF
       (here m.move.change.word []))) in
       let many = words.1 in
       let set = ap (λ (y : TxnState). length y.slots) (sym was.same) ∙ cause.writes is in
-      more_writes_before s.field (certificate_acts cs) right op (omega (arith, many, set, least))
+      more_writes_before s.field p (S v was.going was.later) (follow v was.going was.later) (certificate_acts cs) (right v was.going was.later) op (omega (arith, many, set, least))
 
   -- a word to write
-  change_exceeds : (op : Op) → is_of_map op ≡ false → ChangeRefused store s u cs op → why ≡ Limited Writes → Exceeds s.field (certificate_acts cs) op
+  change_exceeds : (op : Op) → is_of_map op ≡ false → ChangeRefused store s u cs op → why ≡ Limited Writes
+      → MayFollowOn s.field p (certificate_acts cs) op WriteMore
   change_exceeds op other (v, was, n) is =
       let c = n.certificate in
       let w = n.would (H v was.going was.later) (heap_of v was.going was.later) in
@@ -199,16 +220,18 @@ module _ (p : PassState) (s u : TxnState) (of : IsPassOf s.field p) (fresh : IsF
       (all_changes cs) c.tidy w.charged) in
       let many = words.1 in
       let set = ap (λ (y : TxnState). length y.slots) (sym was.same) ∙ cause.writes is in
-      subst (Exceeds s.field (certificate_acts cs)) n.op_is
-      (changed_exceed s.field cs c (next_right s.field p of fresh tag start v begins (over v was.going was.later) was.later.field cs was.going c stand) right
+      subst (λ o. MayFollowOn s.field p (certificate_acts cs) o WriteMore) n.op_is
+      (changed_exceed s.field p (S v was.going was.later) (follow v was.going was.later) cs c
+      (next_right s.field p of all tag start v begins (over v was.going was.later) was.later.field cs was.going c stand) (right v was.going was.later)
       (H v was.going was.later) stand (few_more v was.going was.later c (ap is_of_map n.op_is ∙ other))
       (with_word v cs was.going n.last.word) words.0 (omega (arith, many, set))
-      (subst (λ k. AllCharged k [] (cs ++ c ∷ [])) (sym (heap_shape s.field p of fresh tag start v begins (over v was.going was.later) was.later.field cs was.going)) charged)
+      (subst (λ k. AllCharged k [] (cs ++ c ∷ [])) (sym (heap_shape s.field p of all tag start v begins (over v was.going was.later) was.later.field cs was.going)) charged)
       (subst (λ l. All (Contains (words_of_changes l)) (with_word v cs was.going n.last.word)) changes
       (all_named v cs was.going n.last.word (n.last ∷ []) (here n.last.word []))))
 
-  pub queue_exceeds : (queue : ℕ) (op : Op) (Asks : Op → Type 0) → QueueLimits s u cs queue op Asks why → IsCountLimit why → Exceeds s.field (certificate_acts cs) op
-  queue_exceeds queue op Asks limits (inl is) = let r = limits.reads is alone in reads_exceed op Asks r.0 r.1 is
-  queue_exceeds queue op Asks limits (inr (inl is)) = ⊎_elim (λ m. move_exceeds queue op m is) (λ n. change_exceeds op limits.other n is) (limits.writes is alone)
-  queue_exceeds queue op Asks limits (inr (inr is)) = let n = limits.nodes is in
-      new_node_exceeds p s u of fresh tag start begins later cs counted stored why cause nodes_are on op n.0 n.1 is
+  pub queue_exceeds : (queue : ℕ) (op : Op) (Asks : Op → Type 0) → QueueLimits s u cs queue op Asks why → Exceeds s.field p (certificate_acts cs) op why
+  queue_exceeds queue op Asks limits = record {
+    reads = λ is. let r = limits.reads is alone in reads_exceed op Asks r.0 r.1 is;
+    writes = λ is. ⊎_elim (λ m. move_exceeds queue op m is) (λ n. change_exceeds op limits.other n is) (limits.writes is alone);
+    nodes = λ is. let n = limits.nodes is in new_node_exceeds p s u of tag start begins later cs counted stored why cause nodes_are on all op n.0 n.1 is;
+  }

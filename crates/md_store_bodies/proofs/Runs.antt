@@ -1,5 +1,5 @@
 -- A transaction of the store runs on over an operation, whether that is answered or refused.
-use Rattle.std.specs.Prelude.{Result, ◌≡◌, ◌<◌, ◌⊎◌, ◌++◌, ◌∷◌, ℕ, false, List, [], Some, None, Option, map, option_map}
+use Rattle.std.specs.Prelude.{Result, ◌≡◌, ◌≤◌, ◌<◌, ◌⊎◌, ◌++◌, ◌∷◌, ℕ, false, List, [], Some, None, Option, map, option_map}
 use Rattle.std.proofs.Common.{refl, sym, ap, subst, ◌∙◌}
 use Rattle.std.proofs.lemmas.Bool.{false≢true}
 use Rattle.std.specs.List.{Contains}
@@ -32,12 +32,12 @@ use Rattle.md_rule.specs.Views.{FieldView, PassState}
 use Rattle.md_store_law.specs.Store.{store}
 use Rattle.md_store_counts.specs.Few.{NextCharged, RecordsOne, certificate_acts, is_of_map, placed_nexts, read_before, recorded_by}
 use Rattle.md_store_bodies.specs.declared.broken.Broken.{Broken}
-use Rattle.md_store_bodies.specs.Counted.{Exceeds, IsCountLimit, HasCountedCertificates}
+use Rattle.md_store_bodies.specs.Counted.{Exceeds, HasCountedCertificates, Reaches}
 use Rattle.md_store_bodies.specs.Running.{IsRunning, RunsOn, refusal_of}
-use Rattle.md_store_bodies.specs.Store.{IsFresh, IsPassOf}
+use Rattle.md_store_bodies.specs.Store.{HasAllLanes, IsPassOf}
 use Rattle.md_store_bodies.proofs.Charging.{counted_later, counted_more, list_charged, nodes_more, queue_charged, queue_reads, reads_before}
-use Rattle.md_store_bodies.proofs.ListRefusals.{ListLimits, list_exceeds}
-use Rattle.md_store_bodies.proofs.QueueRefusals.{QueueLimits, queue_exceeds}
+use Rattle.md_store_bodies.proofs.ListRefusals.{ListLimits, list_exceeds, list_reaches}
+use Rattle.md_store_bodies.proofs.QueueRefusals.{QueueLimits, queue_exceeds, queue_reaches}
 
 -- the head of a key's own bucket, in a shape that has the map
 pub is_head_of : (before now asked : Shape) (map key head : ℕ) → now ≡ before → asked ≡ now → map < before.maps
@@ -76,16 +76,19 @@ pub record IsRefusedSo (s u : TxnState) (cs : List Certificate) (why : Stop) : T
   pub later : IsLater s u
   pub stop : u.stop ≡ Some why
 
--- what becomes of a refusal's stop where a limit is exceeded
+-- what becomes of a refusal's stop where a limit is reached, or exceeded
+abbrev pub ReachesBy : (before : PassState) (t : TxnState) → Option Refusal → Type 0
+ReachesBy before t r = (refusal : Refusal) → r ≡ Some refusal → IsPassOf t.field before → Reaches before t.hand.acts refusal.op refusal.stop
+
 abbrev pub ExceedsBy : (before : PassState) (t : TxnState) → Option Refusal → Type 0
-ExceedsBy before t r = (refusal : Refusal) → r ≡ Some refusal → IsPassOf t.field before → IsFresh before → IsCountLimit refusal.stop
-    → Exceeds t.field t.hand.acts refusal.op
+ExceedsBy before t r = (refusal : Refusal) → r ≡ Some refusal → IsPassOf t.field before → HasAllLanes t.field before
+    → Exceeds t.field before t.hand.acts refusal.op refusal.stop
 
 -- a later state that is under way runs on
 runs_later : (before : PassState) (t u : TxnState) (r r' : Option Refusal) → IsRunning before t r → IsLater t u → IsUnderWay store u
     → u.stop ≡ option_map (λ x. x.stop) r' → (r' ≡ None → (u.hand.operating ≡ false) × ((cs : List Certificate) × HasCountedCertificates u cs))
-    → ExceedsBy before u r' → RunsOn before t u r'
-runs_later before t u r r' run later going stop between exceeds = record {
+    → ReachesBy before u r' → ExceedsBy before u r' → RunsOn before t u r'
+runs_later before t u r r' run later going stop between reaches exceeds = record {
   running = record {
     start = run.start;
     begins = subst (λ (tag : ℕ). BeginsTransaction before tag run.start) (sym later.tag) run.begins;
@@ -94,6 +97,7 @@ runs_later before t u r r' run later going stop between exceeds = record {
     stop = stop;
     between = λ none. (between none).0;
     counted = λ none. (between none).1;
+    reaches = reaches;
     exceeds = exceeds;
   };
   field = later.field;
@@ -151,6 +155,7 @@ module _ (before : PassState) (t s : TxnState) (b : Option Broken) (whole : b �
               (ap (λ (x : TxnState). x.reads) ends.is) (ap shape_in ends.is ∙ shape) by.few by.charged,
         ),
       ))
+      (λ refusal some. absurd (some_none refusal (sym some)))
       (λ refusal some. absurd (some_none refusal (sym some))))
 
   -- its act is added, and no refusal stands
@@ -170,23 +175,30 @@ module _ (before : PassState) (t s : TxnState) (b : Option Broken) (whole : b �
       subst (λ (x : Option Broken). Refused op why t.hand.acts u.hand.acts (refusal_of x) (Some r)) (sym whole)
       (record { same = same; stands = refl; again = refl })
 
-  -- of an operation that was refused by a limit: the acts with it exceed the limit
-  abbrev pub Exceeding : TxnState → Op → Stop → Type 0
-  Exceeding u op why = IsPassOf s.field before → IsFresh before → IsCountLimit why → Exceeds s.field (certificate_acts cs) op
+  -- of an operation that was refused: the acts with it reach the limit, or exceed it
+  abbrev pub Reaching : Op → Stop → Type 0
+  Reaching op why = IsPassOf s.field before → Reaches before (certificate_acts cs) op why
 
-  pub refused_runs : (u : TxnState) (op : Op) (why : Stop) → IsRefusedSo s u cs why → u.hand.acts ≡ s.hand.acts → Exceeding u op why
+  abbrev pub Exceeding : Op → Stop → Type 0
+  Exceeding op why = IsPassOf s.field before → HasAllLanes s.field before → Exceeds s.field before (certificate_acts cs) op why
+
+  pub refused_runs : (u : TxnState) (op : Op) (why : Stop) → IsRefusedSo s u cs why → u.hand.acts ≡ s.hand.acts → Reaching op why → Exceeding op why
       → RunsOn before t u (Some (record { stop = why; op = op }))
-  refused_runs u op why was acts exceeds =
-      runs_later before t u None (Some (record { stop = why; op = op })) running (later_over t s u start.on.later was.later) (cs, was.going) was.stop
-      (λ none. absurd (some_none (record { stop = why; op = op }) none))
-      (λ refusal some of fresh limit.
+  refused_runs u op why was acts reaches exceeds =
       let r : Refusal = record { stop = why; op = op } in
-      let same : r ≡ refusal = some_refusal r refusal some in
-      subst (λ (x : Refusal). Exceeds u.field u.hand.acts x.op) same
-      (subst (λ (f : FieldView). Exceeds f u.hand.acts op) (sym was.later.field)
-      (subst (λ acts. Exceeds s.field acts op) (sym (acts ∙ counted.going.course.acts))
-      (exceeds (subst (λ (f : FieldView). IsPassOf f before) was.later.field of) fresh
-      (subst (λ (x : Refusal). IsCountLimit x.stop) (sym same) limit)))))
+      let same_acts : certificate_acts cs ≡ u.hand.acts = sym (acts ∙ counted.going.course.acts) in
+      runs_later before t u None (Some r) running (later_over t s u start.on.later was.later) (cs, was.going) was.stop
+      (λ none. absurd (some_none r none))
+      (λ refusal some of.
+      subst (λ (x : Refusal). Reaches before u.hand.acts x.op x.stop) (some_refusal r refusal some)
+      (subst (λ acts. Reaches before acts op why) same_acts
+      (reaches (subst (λ (f : FieldView). IsPassOf f before) was.later.field of))))
+      (λ refusal some of all.
+      subst (λ (x : Refusal). Exceeds u.field before u.hand.acts x.op x.stop) (some_refusal r refusal some)
+      (subst (λ (f : FieldView). Exceeds f before u.hand.acts op why) (sym was.later.field)
+      (subst (λ acts. Exceeds s.field before acts op why) same_acts
+      (exceeds (subst (λ (f : FieldView). IsPassOf f before) was.later.field of)
+      (subst (λ (f : FieldView). HasAllLanes f before) was.later.field all)))))
 
   -- operations of lists
   module _ (u : TxnState) (reads writes nodes : ℕ) (leaves : OperationGoesOn store s u reads writes nodes) where
@@ -216,14 +228,18 @@ module _ (before : PassState) (t s : TxnState) (b : Option Broken) (whole : b �
     list_refused why is = record { going = leaves.on.going cs counted.going; later = leaves.on.later; stop = is }
 
     -- the nodes of u are those that were taken
-    pub list_runs : u.nodes ≡ map (own_node (shape_in u) u.pass) (taken_since u.began u.pass) → (head key : ℕ) (op : ℕ → Op) (map_of : ℕ)
+    pub list_runs : u.nodes ≡ map (own_node (shape_in u) u.pass) (taken_since u.began u.pass) → reads ≤ 2 → (head key : ℕ) (op : ℕ → Op) (map_of : ℕ)
         → IsHeadOf (shape_in s) map_of key head → (why : Stop) → u.stop ≡ Some why → ListLimits s u head key op why
         → RunsOn before t u (Some (record { stop = why; op = op map_of }))
-    list_runs nodes_are head key op map_of is_head why stop limits =
-        let going = leaves.on.going cs counted.going in
-        refused_runs u (op map_of) why (list_refused why stop) leaves.acts (λ of fresh limit.
-        list_exceeds before s u of fresh t.hand.tag running.start running.begins (later_over running.start t s running.later start.on.later) cs counted
-        (ap (λ (x : TxnState). x.hand.stored) start.is) why (going.stop why stop) nodes_are leaves.on head key op map_of is_head limits limit)
+    list_runs nodes_are two head key op map_of is_head why stop limits =
+        let cause = (leaves.on.going cs counted.going).stop why stop in
+        let stored = ap (λ (x : TxnState). x.hand.stored) start.is in
+        let over = later_over running.start t s running.later start.on.later in
+        refused_runs u (op map_of) why (list_refused why stop) leaves.acts
+        (λ of. list_reaches before s u of t.hand.tag running.start running.begins over cs counted stored why cause nodes_are leaves.on
+        head key op map_of reads limits two leaves.reads_few)
+        (λ of all. list_exceeds before s u of t.hand.tag running.start running.begins over cs counted stored why cause nodes_are leaves.on all
+        head key op map_of is_head limits)
 
   -- operations of queues
   module _ (u : TxnState) (reads writes nodes : ℕ) where
@@ -246,13 +262,17 @@ module _ (before : PassState) (t s : TxnState) (b : Option Broken) (whole : b �
         }
 
     -- the nodes of u are those that were taken
-    pub queue_runs : u.nodes ≡ map (own_node (shape_in u) u.pass) (taken_since u.began u.pass) → (queue : ℕ) (op : Op) (Asks : Op → Type 0) (why : Stop)
+    pub queue_runs : u.nodes ≡ map (own_node (shape_in u) u.pass) (taken_since u.began u.pass) → reads ≤ 2 → (queue : ℕ) (op : Op) (Asks : Op → Type 0) (why : Stop)
         → OperationRefused store s u reads writes nodes why → QueueLimits s u cs queue op Asks why → RunsOn before t u (Some (record { stop = why; op = op }))
-    queue_runs nodes_are queue op Asks why r limits =
-        let going = r.leaves.on.going cs counted.going in
-        refused_runs u op why (record { going = going; later = r.leaves.on.later; stop = r.kept }) r.leaves.acts (λ of fresh limit.
-        queue_exceeds before s u of fresh t.hand.tag running.start running.begins (later_over running.start t s running.later start.on.later) cs counted
-        (ap (λ (x : TxnState). x.hand.stored) start.is) none_stood why (going.stop why r.kept) nodes_are r.leaves.on queue op Asks limits limit)
+    queue_runs nodes_are two queue op Asks why r limits =
+        let cause = (r.leaves.on.going cs counted.going).stop why r.kept in
+        let stored = ap (λ (x : TxnState). x.hand.stored) start.is in
+        let over = later_over running.start t s running.later start.on.later in
+        refused_runs u op why (record { going = r.leaves.on.going cs counted.going; later = r.leaves.on.later; stop = r.kept }) r.leaves.acts
+        (λ of. queue_reaches before s u of t.hand.tag running.start running.begins over cs counted stored why cause nodes_are r.leaves.on
+        queue reads op Asks limits two r.leaves.reads_few)
+        (λ of all. queue_exceeds before s u of all t.hand.tag running.start running.begins over cs counted stored none_stood why cause nodes_are r.leaves.on
+        queue op Asks limits)
 
 -- an operation of a queue is begun
 pub queue_begun : (t s : TxnState) (queue : ℕ) → IsUnderWay store t → IsStarted t s → queue < (shape_in t).queues → IsBegunQueue store s queue

@@ -52,10 +52,21 @@ front_in p = front_of p.shape p.view
 abbrev pub begun_by : PassState → ℕ
 begun_by p = sum_by (λ lane. (share_at p.shares lane).tries_taken) p.view.lanes
 
+-- how many nodes they have taken, and how many they have in all
+abbrev pub taken_by : PassState → ℕ
+taken_by p = sum_by (λ lane. (share_at p.shares lane).nodes_taken) p.view.lanes
+
+abbrev pub nodes_in : PassState → ℕ
+nodes_in p = sum_by (λ lane. p.shape.nodes) p.view.lanes
+
 -- the pass is of the field, and stands so in some machine of it
 pub record IsPassOf (f : FieldView) (p : PassState) : Type 0 where
   pub of : IsOf p f
   pub stands : StandsInField store f.origin p.view
+
+-- the pass holds all lanes of the field
+abbrev pub HasAllLanes : FieldView → PassState → Type 0
+HasAllLanes f p = (front_in p).lanes ≡ all_lanes f.origin.shape
 
 -- nothing of a lane was taken
 pub record IsShareUnused (s : Share) : Type 0 where

@@ -4,7 +4,7 @@ use md_history::{Op, Stop};
 
 /// The first call that was refused, and why.
 #[derive(Clone, Copy)]
-pub(crate) struct Broken {
-    pub(crate) stop: Stop,
-    pub(crate) op: Op,
+pub struct Broken {
+    pub stop: Stop,
+    pub op: Op,
 }

@@ -1,15 +1,13 @@
-//! A transaction of the store under way, and its calls on maps and queues.
+//! The operations of a transaction of the store.
 //!
-//! `run` runs a body over a transaction that was just begun. Each call of the body is one operation
-//! of md_list or md_queue, from its begin to its end. The first refusal is kept, and after it no
-//! call does anything more.
+//! Each call is one operation of md_list or md_queue, from its begin to its end. The first refusal
+//! is kept, and after it no call does anything more.
 #![tactic(auto)]
 
-pub use body::run;
+pub use broken::Broken;
+pub use on_maps::{get_in, insert_in, put_in, remove_in};
+pub use on_queues::{dequeue_in, enqueue_in, front_in, line_in};
 
-mod body;
 mod broken;
-mod calls;
 mod on_maps;
 mod on_queues;
-mod txn;

@@ -40,7 +40,9 @@ fn look_up<'a>(txn: &mut Txn<'a, StoreTheory>, head: u32, key: u64) -> Result<Op
     get(txn, head, key)
 }
 
-pub(crate) fn get_in<'a>(
+/// `TxCalls::get` over a transaction that began with the pass `before`. `broken` is the call that
+/// was refused first, if one was.
+pub fn get_in<'a>(
     txn: &mut Txn<'a, StoreTheory>,
     broken: &mut Option<Broken>,
     before: &Snapshot<Pass<StoreTheory>>,
@@ -72,7 +74,8 @@ pub(crate) fn get_in<'a>(
     }
 }
 
-pub(crate) fn insert_in<'a>(
+/// `TxCalls::insert`, in the same way.
+pub fn insert_in<'a>(
     txn: &mut Txn<'a, StoreTheory>,
     broken: &mut Option<Broken>,
     before: &Snapshot<Pass<StoreTheory>>,
@@ -105,7 +108,8 @@ pub(crate) fn insert_in<'a>(
     }
 }
 
-pub(crate) fn remove_in<'a>(
+/// `TxCalls::remove`, in the same way.
+pub fn remove_in<'a>(
     txn: &mut Txn<'a, StoreTheory>,
     broken: &mut Option<Broken>,
     before: &Snapshot<Pass<StoreTheory>>,
@@ -137,7 +141,8 @@ pub(crate) fn remove_in<'a>(
     }
 }
 
-pub(crate) fn put_in<'a>(
+/// `TxCalls::put`, in the same way.
+pub fn put_in<'a>(
     txn: &mut Txn<'a, StoreTheory>,
     broken: &mut Option<Broken>,
     before: &Snapshot<Pass<StoreTheory>>,

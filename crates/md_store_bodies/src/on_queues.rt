@@ -21,7 +21,9 @@ use md_rule::Pass;
 use md_store_law::StoreTheory;
 use std::snapshot::Snapshot;
 
-pub(crate) fn enqueue_in<'a>(
+/// `TxCalls::enqueue` over a transaction that began with the pass `before`. `broken` is the call that
+/// was refused first, if one was.
+pub fn enqueue_in<'a>(
     txn: &mut Txn<'a, StoreTheory>,
     broken: &mut Option<Broken>,
     before: &Snapshot<Pass<StoreTheory>>,
@@ -52,7 +54,8 @@ pub(crate) fn enqueue_in<'a>(
     }
 }
 
-pub(crate) fn dequeue_in<'a>(
+/// `TxCalls::dequeue`, in the same way.
+pub fn dequeue_in<'a>(
     txn: &mut Txn<'a, StoreTheory>,
     broken: &mut Option<Broken>,
     before: &Snapshot<Pass<StoreTheory>>,
@@ -97,7 +100,8 @@ fn look<'a>(txn: &mut Txn<'a, StoreTheory>, queue: u32) -> Result<Option<u64>, S
     front(txn, queue)
 }
 
-pub(crate) fn front_in<'a>(
+/// `TxCalls::front`, in the same way.
+pub fn front_in<'a>(
     txn: &mut Txn<'a, StoreTheory>,
     broken: &mut Option<Broken>,
     before: &Snapshot<Pass<StoreTheory>>,
@@ -127,7 +131,8 @@ pub(crate) fn front_in<'a>(
     }
 }
 
-pub(crate) fn line_in<'a>(
+/// `TxCalls::line`, in the same way.
+pub fn line_in<'a>(
     txn: &mut Txn<'a, StoreTheory>,
     broken: &mut Option<Broken>,
     before: &Snapshot<Pass<StoreTheory>>,

@@ -12,7 +12,7 @@ use Rattle.md_history.specs.declared.acts.Op.{Op}
 use Rattle.md_history.specs.declared.acts.Op.TheVariants.{Get, Insert, Remove, Put, Enqueue, Dequeue, Front, Line}
 use Rattle.md_history.specs.declared.acts.Reply.{Reply}
 use Rattle.md_history.specs.Act.{act_of}
-use Rattle.md_history.specs.Counts.{changed_nothing, looked_queue, met_end}
+use Rattle.md_history.specs.Counts.{changed_nothing, looked_queue, met_end, reads}
 use Rattle.md_machine.specs.declared.certificate.Certificate.{Certificate}
 use Rattle.md_machine.specs.declared.certificate.WordValue.{WordValue}
 use Rattle.md_machine.specs.LogicalHeap.{Holds, LogicalHeap}
@@ -23,7 +23,7 @@ use Rattle.md_queue_law.specs.QueueShape.{IsOf, head_of, link}
 use Rattle.md_queue_law.specs.QueueCertificates.{CertifiesOp, FindsFirst, FindsNone, LooksAlong, LooksEnough, LooksToEnd, Seen, facts_along, has_next, has_value, head_is, last_seen, next_is}
 use Rattle.md_queue_law.specs.Laws.Named.{named_is_of}
 use Rattle.md_store_law.specs.Store.{IsStore, store}
-use Rattle.md_store_counts.specs.Few.{RecordedAreFew, RecordsOne, certificate_acts, recorded_by, recorded_words}
+use Rattle.md_store_counts.specs.Few.{AtMost, RecordedAreFew, RecordsOne, certificate_acts, recorded_by, recorded_words}
 use Rattle.md_store_counts.proofs.Different.{once}
 use Rattle.md_store_counts.proofs.Doing.{IsQueueWord}
 use Rattle.md_store_counts.proofs.Lists.{filter_map_in}
@@ -169,10 +169,11 @@ looked shape (c ∷ cs) certifies records =
           (Contains-append_cases (recorded_by c) (recorded_words cs) word i);
     }
 
-pub recorded_are_few : RecordedAreFew
-recorded_are_few h cs s records words differ all =
-    let shape = h.words.shape in
-    let l = looked shape cs s.certifies records in
+-- so many different words at most, whether the certificates stand or not
+pub recorded_few : (shape : Shape) (cs : List Certificate) → All (store.certifies shape) cs → All RecordsOne cs
+    → AtMost (reads (certificate_acts cs)) (Contains (recorded_words cs))
+recorded_few shape cs certifies records words differ all =
+    let l = looked shape cs certifies records in
     let asked = filter_map (λ (a : Act). looked_queue a.op a.reply) (certificate_acts cs) in
     let o = once nat_eq eqb-true asked in
     let heads = map (head_at shape) o.each in
@@ -190,6 +191,9 @@ recorded_are_few h cs s records words differ all =
     let count = o.count in
     let few = l.few in
     omega (arith, less, long, each, count, few)
+
+pub recorded_are_few : RecordedAreFew
+recorded_are_few h cs s records = recorded_few h.words.shape cs s.certifies records
 
 module _ (k : LogicalHeap) (valid : IsStore k) (c : Certificate) (stands : Stands k c) where
   abbrev of_k : Shape

@@ -10,7 +10,7 @@ use Rattle.md_list.specs.Walking.{IsHeadOf}
 use Rattle.md_list.proofs.answers.Answered.{may_answer}
 use Rattle.md_nbtc_law.specs.Calls.{EndsOperation, GoesOn, with_act, with_operation}
 use Rattle.md_nbtc_law.specs.Ending.{BeginsTransaction}
-use Rattle.md_nbtc_law.specs.Going.{IsGoing, IsUnderWay}
+use Rattle.md_nbtc_law.specs.Going.{IsGoing}
 use Rattle.md_nbtc_law.specs.State.{TxnState, shape_in}
 use Rattle.md_rule.specs.Views.{FieldView, PassState}
 use Rattle.md_store_law.specs.Store.{store}

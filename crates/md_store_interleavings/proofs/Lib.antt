@@ -1,3 +1,4 @@
 mod Acted
 mod Ended
 mod Looked
+mod Plays

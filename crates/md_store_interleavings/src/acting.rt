@@ -14,7 +14,7 @@ use md_store_law::StoreTheory;
 use md_words::Shape;
 
 /// Begins a transaction of a pass, with any tag. It keeps its words and nodes in `sets`. The error
-/// is `Limit::Tries` if each lane of the pass has begun all of its attempts (`Txn::begin`).
+/// is `Limit::Tries` if each lane of the pass has begun all of its attempts (`Store::begin`).
 pub fn begin<'a>(
     store: &'a Store,
     pass: &'a mut Pass<StoreTheory>,
@@ -25,7 +25,7 @@ pub fn begin<'a>(
     ensures pass { IfOk result (λ t. t.pass.ghost_name ≡ pass.entry.ghost_name) }
     ensures acting { IfOk result (λ t. IsActing store.now (state t) None) }
 {
-    let begun = Txn::begin(pass, store.field(), tag)?;
+    let begun = Store::begin(pass, store, tag)?;
     Ok(begun.with(sets))
 }
 

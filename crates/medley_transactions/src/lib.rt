@@ -1,7 +1,7 @@
 //! Transactions over maps and queues that threads share without locks. This crate adds nothing. It
 //! names in one place what a program needs of the crates below.
 //!
-//! A **body** is the code of a transaction: a type with the trait [`Body`], which makes the seven
+//! A **body** is the code of a transaction: a type with the trait [`Body`], which makes the eight
 //! operations of [`TxCalls`] on maps and queues. Its ghost members tell contracts which acts it
 //! does with which reply. A body must be safe for every reply, since only an attempt that commits
 //! is known to have seen right ones.
@@ -47,6 +47,10 @@
 /// The store that threads share, its passes, and why it can't be opened. A pass holds some of the
 /// store's lanes, for one thread to use.
 pub use md_store::{OpenFault, Store, StorePass};
+
+/// A transaction that plain code makes call by call, and a function that lends to a proof what its
+/// end tells, and does nothing when it runs.
+pub use md_store::{StoreTxn, transactions_end};
 
 /// How many base nodes contents need.
 pub use md_store_layout::needed;

@@ -12,6 +12,7 @@ use md_words::Shape;
 use std::alloc::{AllocError, AllocGlobal, Global};
 use std::process::Abort;
 
+mod by_hand;
 mod counts;
 mod model;
 mod moves;

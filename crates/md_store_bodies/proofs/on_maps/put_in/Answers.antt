@@ -1,4 +1,4 @@
-use Rattle.std.proofs.Common.{ap, ℕ, Option, inl, refl, Result, Ok, Err}
+use Rattle.std.proofs.Common.{arith, ap, ℕ, Option, inl, refl, Result, Ok, Err}
 use Rattle.md_history.specs.declared.stops.Stop.{Stop}
 use Rattle.md_history.specs.declared.acts.Op.TheVariants.{Put}
 use Rattle.md_history.specs.declared.acts.Reply.TheVariants.{Value}
@@ -74,7 +74,7 @@ returns-in-Err-clause-makes c =
       runs = (
           let is_head = is_head_of (shape_in t) (shape_in s) c.shape.result.now c.args.map c.args.key
           c.map_head-head.result (ap shape_in c.start_op.ensures.begun) c.shape.ensures c.requires.map c.map_head-head.ensures.place in
-          list_runs c.args.before.now.value t s c.args.broken.now c.in_default.is c.requires.running start u 0 1 1 c.put.ensures.leaves refl
+          list_runs c.args.before.now.value t s c.args.broken.now c.in_default.is c.requires.running start u 0 1 1 c.put.ensures.leaves refl (omega arith)
           c.map_head-head.result c.args.key (λ map. Put map c.args.key c.args.value) c.args.map is_head c.in-Err.stop stops (record {
             reads = λ is. absurd (c.in-Err.ensures.no_read none (ap Err is));
             writes = λ is. c.in-Err.ensures.no_slot none (ap Err is);

@@ -1,4 +1,4 @@
-use Rattle.std.proofs.Common.{rules, refl}
+use Rattle.std.proofs.Common.{arith, rules, refl}
 use Rattle.md_history.specs.declared.acts.Op.TheVariants.{Dequeue}
 use Rattle.md_history.specs.declared.acts.Reply.TheVariants.{Value}
 use Rattle.md_nbtc.specs.State.{state}
@@ -45,7 +45,7 @@ returns-in-Err-clause-makes c =
     let start : IsStarted t s = record { on = c.start_op.ensures.on; is = c.start_op.ensures.begun } in
     let none = none_stood c.args.before.now.value t s c.args.broken.now c.in_default.is c.requires.running start in
     record {
-      runs = queue_runs c.args.before.now.value t s c.args.broken.now c.in_default.is c.requires.running start u 2 2 0 refl
+      runs = queue_runs c.args.before.now.value t s c.args.broken.now c.in_default.is c.requires.running start u 2 2 0 refl (omega arith)
           c.args.queue (Dequeue c.args.queue) (AsksFor (Dequeue c.args.queue)) c.in-Err.stop c.in-Err.ensures.stop.refused (record {
             other = refl;
             reads = λ is alone. (λ op. asks_itself (Dequeue c.args.queue) op refl, c.in-Err.ensures.reads is alone (cs c.args.before.now.value t s c.args.broken.now c.in_default.is c.requires.running start) (counted c.args.before.now.value t s c.args.broken.now c.in_default.is c.requires.running start).going);

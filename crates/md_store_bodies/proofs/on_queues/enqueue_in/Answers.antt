@@ -1,4 +1,4 @@
-use Rattle.std.proofs.Common.{rules, refl}
+use Rattle.std.proofs.Common.{arith, rules, refl}
 use Rattle.md_history.specs.declared.acts.Op.TheVariants.{Enqueue}
 use Rattle.md_history.specs.declared.acts.Reply.TheVariants.{Nothing}
 use Rattle.md_nbtc.specs.State.{state}
@@ -43,7 +43,7 @@ returns-in-Err-clause-makes c =
     let start : IsStarted t s = record { on = c.start_op.ensures.on; is = c.start_op.ensures.begun } in
     let none = none_stood c.args.before.now.value t s c.args.broken.now c.in_default.is c.requires.running start in
     record {
-      runs = queue_runs c.args.before.now.value t s c.args.broken.now c.in_default.is c.requires.running start u 0 2 1 refl
+      runs = queue_runs c.args.before.now.value t s c.args.broken.now c.in_default.is c.requires.running start u 0 2 1 refl (omega arith)
           c.args.queue (Enqueue c.args.queue c.args.value) (AsksFor (Enqueue c.args.queue c.args.value)) c.in-Err.stop c.in-Err.ensures.stop (record {
             other = refl;
             reads = λ is alone. absurd (stands_not none (c.in-Err.ensures.no_reads is));

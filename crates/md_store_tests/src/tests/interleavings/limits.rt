@@ -45,3 +45,23 @@ fn a_lane_enqueues_as_many_values_as_it_has_nodes(rt: HostRuntime) {
     are_told(&rt, &store, &mut a.pass, &ops, fails(&want, end));
     ends_with(&rt, store, a, b, &[(3, 30)]);
 }
+
+#[test]
+fn a_lane_with_one_attempt_begins_no_other(rt: HostRuntime) {
+    let shape = Shape::new(2, 16, 1, 1, 1, 64, 1).expect(&rt, "a shape");
+    let (store, mut a) = opened(&rt, shape, &pairs(&rt, &[]));
+    let _b = halved(&rt, &store, &mut a);
+    let plan = Plan {
+        tag: 5,
+        ops: &[],
+        way: Way::Stop,
+    };
+    let mut told = Vec::new(rt.alloc());
+    let end = all(&rt, &store, &mut a.pass, &plan, &mut told);
+    same(&rt, &end, &Ok(false));
+    let again = match Store::begin(&mut a.pass, &store, 6) {
+        Ok(_) => None,
+        Err(limit) => Some(limit),
+    };
+    same(&rt, &again, &Some(Limit::Tries));
+}

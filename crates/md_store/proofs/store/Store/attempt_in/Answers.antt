@@ -8,20 +8,25 @@ use Rattle.md_nbtc.specs.State.{begun_state, state}
 use Rattle.md_rule.specs.Views.{FieldView, PassState}
 use Rattle.md_store_law.specs.Store.{store}
 use Rattle.md_store.specs.Attempted.{IsAttempted}
+use Rattle.md_store.specs.Transactions.{IsBegun}
 use Rattle.md_store_bodies.specs.Running.{BreaksOff, IsRunning}
-use Rattle.md_store.proofs.Attempts.{at_err, at_ok, begun_runs, on_err}
+use Rattle.md_store_bodies.specs.Store.{IsPassOf}
+use Rattle.md_store.proofs.Attempts.{at_err, at_ok, on_err}
 use Rattle.md_store.proofs.Ends.{ends_committed, ends_lost, ends_refused, ends_unbegun, is_on}
+use Rattle.md_store.proofs.Transactions.{is_begun}
 use Rattle.md_store.proofs.store.Store.attempt_in.Goals as goal
 
-pub run-txn-requires-clause-running : goal.run-txn-requires-clause-running
-run-txn-requires-clause-running g c =
+pub run-txn-requires-clause-begun : goal.run-txn-requires-clause-begun
+run-txn-requires-clause-begun g c =
     let t = begun_state c.in-Ok.begun in
-    subst (λ (b : PassState). IsRunning b (state c.with-txn.result) None) (sym c.of-before.ensures)
-    (subst (λ (s : TxnState). IsRunning c.args.pass.now s None) (sym c.with-txn.ensures.state)
-    (begun_runs c.args.pass.now c.args.tag t c.in-Ok.ensures.begun c.in-Ok.ensures.going))
+    subst (λ (b : PassState). IsBegun b (state c.with-txn.result)) (sym c.of-before.ensures)
+    (subst (λ (s : TxnState). IsBegun c.args.pass.now s) (sym c.with-txn.ensures.state)
+    (is_begun c.args.pass.now c.args.tag t c.in-Ok.ensures.begun c.in-Ok.ensures.going))
 
-pub run-txn-requires-clause-none : goal.run-txn-requires-clause-none
-run-txn-requires-clause-none g c = ap (λ (s : TxnState). s.hand.acts) c.with-txn.ensures.state ∙ ap (λ (h : Hand). h.acts) c.in-Ok.ensures.begun.hand
+pub run-txn-requires-clause-of : goal.run-txn-requires-clause-of
+run-txn-requires-clause-of g c =
+    let field = ap (λ (s : TxnState). s.field) c.with-txn.ensures.state ∙ c.in-Ok.ensures.field ∙ c.self.view_is in
+    subst (λ (f : FieldView). IsPassOf f c.of-before.result.value) (sym field) (subst (IsPassOf c.args.self.now) (sym c.of-before.ensures) c.requires.of)
 
 pub run-txn-requires-clause-fits : goal.run-txn-requires-clause-fits
 run-txn-requires-clause-fits g c =

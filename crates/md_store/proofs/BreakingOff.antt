@@ -1,6 +1,6 @@
 -- A body that broke off: what its transaction has then.
 use Rattle.std.proofs.Common.{◌≡◌, ◌++◌, ◌∙◌, List, [], ◌∷◌, Option, Some, Result, Ok, Err, sym, subst}
-use Rattle.std.specs.Prelude.{IfErr}
+use Rattle.std.specs.Prelude.{IfErr, IfOk}
 use Rattle.md_history.specs.declared.acts.Act.{Act}
 use Rattle.md_history.specs.declared.stops.Stop.{Stop}
 use Rattle.md_history.specs.Act.{act_of}
@@ -25,3 +25,8 @@ breaks_off makes before b t r q acts run same stands are why off = record {
 pub err_more : {A E : Type 0} (result : Result A E) (P Q : E → Type 0) → ((e : E) → P e → Q e) → IfErr result P → IfErr result Q
 err_more (Ok a) P Q more is = tt
 err_more (Err e) P Q more is = more e is
+
+-- and so it is of a value
+pub ok_more : {A E : Type 0} (result : Result A E) (P Q : A → Type 0) → ((a : A) → P a → Q a) → IfOk result P → IfOk result Q
+ok_more (Ok a) P Q more is = more a is
+ok_more (Err e) P Q more is = tt

@@ -1,9 +1,10 @@
-//! The calls of a transaction of the store.
+//! The calls of a transaction of a store.
 
-use crate::on_maps::{get_in, insert_in, put_in, remove_in};
-use crate::on_queues::{dequeue_in, enqueue_in, front_in, line_in};
 use crate::txn::StoreTxn;
 use md_history::{Line, Stop, TxCalls};
+use md_store_bodies::{
+    dequeue_in, enqueue_in, front_in, get_in, insert_in, line_in, put_in, remove_in,
+};
 
 impl<'a> TxCalls for StoreTxn<'a> {
     ghost use Rattle.md_store_bodies.specs.Running.{Kept};

@@ -1,0 +1,29 @@
+use Rattle.std.proofs.Common.{◌∙◌, ap, subst, sym}
+use Rattle.md_store.specs.Store.{IsPassOf}
+use Rattle.md_store_bodies.specs.Running.{Kept}
+use Rattle.md_store_interleavings.specs.Moving.{move_one}
+use Rattle.md_store_interleavings.proofs.Plays.{plays_did}
+use Rattle.md_store_interleavings.proofs.transfers.make_calls.Goals as goal
+
+pub done-requires : goal.done-requires
+done-requires c =
+    let kept = c.move_one.ensures.kept ∙ c.over-calls.ensures.kept in
+    subst (λ (k : Kept). IsPassOf k.field k.before) (sym kept) c.requires.of
+
+pub returns-clause-pass : goal.returns-clause-pass
+returns-clause-pass c = c.done.ensures.pass ∙ ap (λ (k : Kept). k.name) (c.move_one.ensures.kept ∙ c.over-calls.ensures.kept)
+
+pub returns-clause-moved : goal.returns-clause-moved
+returns-clause-moved c =
+    let kept = c.move_one.ensures.kept ∙ c.over-calls.ensures.kept in
+    record {
+      r = c.move_one.new.t;
+      ran = record {
+        run = c.done.ensures.run;
+        now = c.done.ensures.same;
+        same = ap (λ (k : Kept). k.before) kept;
+        field = ap (λ (k : Kept). k.field) kept;
+        tag = ap (λ (k : Kept). k.tag) kept;
+      };
+      did = plays_did (move_one c.args.from c.args.to) c.move_one.result c.over-calls.result c.move_one.new.t c.over-calls.ensures.acts c.move_one.ensures.plays;
+    }
