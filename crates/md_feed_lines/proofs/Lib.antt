@@ -1,2 +1,4 @@
 pub mod Relaying
+pub mod Feeding
+pub mod Crossing
 pub mod Scripts

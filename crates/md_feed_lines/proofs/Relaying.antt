@@ -1,6 +1,6 @@
 -- Each step of a channel keeps its rule.
 use Rattle.std.proofs.Common.{◌≡◌, ◌∙◌, ◌+◌, ◌++◌, ◌∷◌, ℕ, zero, suc, List, [], true, false, true≢false, length, refl, sym, ap, subst, arith, append_assoc}
-use Rattle.std.specs.Prelude.{Option, Some, IfSome}
+use Rattle.std.specs.Prelude.{Bool, not, is_some, Option, Some, None, IfSome, IfNone}
 use mathlib.Core.Option.{some, some-ne-none}
 use lib.ListN.{get_elem?}
 use Rattle.crossbeam_channel.specs.Fifo.{Pushes, Pops, Forks, Learns}
@@ -12,6 +12,16 @@ use Rattle.md_feed_lines.specs.Fed.{fed_at, IsMade, lines_from, AreFirstLines, p
 -- what holds of an option's value, if it has one
 pub if-some : {A : Type 0} (o : Option A) (x : A) (P : A → Type 0) → o ≡ Some x → IfSome o P → P x
 if-some o x P is holds = subst (λ t. IfSome t P) is holds
+
+-- what holds if an option has no value
+pub if-none : {A : Type 0} (o : Option A) (P : Type 0) → o ≡ None → IfNone o P → P
+if-none o P is holds = subst (λ t. IfNone t P) is holds
+
+-- an option that was found to have no value has none
+pub none-of : {A : Type 0} (o : Option A) (none : Bool) → is_some o ≡ not none → none ≡ true → o ≡ None
+none-of None none is found = refl
+none-of (Some x) true is found = absurd (true≢false is)
+none-of (Some x) false is found = absurd (true≢false (sym found))
 
 -- a line more
 lines-more : (number callers caller n count : ℕ) → lines_from number callers caller n (suc count)

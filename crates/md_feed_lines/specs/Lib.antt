@@ -1,3 +1,4 @@
 pub mod Made
 pub mod Fed
 pub mod Planned
+pub mod Feeding

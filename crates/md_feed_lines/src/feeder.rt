@@ -1,153 +1,71 @@
-//! Who makes lines and sends each to its caller.
+//! Who feeds all callers.
 
-ghost use Rattle.std.specs.Prelude.{◌≡◌, ◌≤◌, ◌<◌, ◌+◌, [], vec_len, IfSome, IfOk};
-ghost use Rattle.std.specs.Option.{ForSome};
-ghost use Rattle.crossbeam_channel.specs.Claims.{view};
-ghost use Rattle.md_feed_lines.specs.Made.{before_line};
-ghost use Rattle.md_feed_lines.specs.Fed.{fed_at, lines_from};
+ghost use Rattle.std.specs.Prelude.{◌≡◌, ◌<◌, true, map, All, IfOk};
 ghost use Rattle.md_feed_lines.specs.Planned.{CanBeMade};
+ghost use Rattle.md_feed_lines.specs.Feeding.{IsFed, feed_of, callers_of};
 
-use crate::channel::{Offer, SendEnd, open_channel};
-use crate::fed::FedLine;
+use crate::channel::open_channel;
+use crate::feed::{Feed, Step};
 use crate::hand::Hand;
 use crate::lines::FeedLines;
-use crate::making::{Making, Wanted};
+use crate::making::Making;
 use crate::plan::Plan;
 use std::alloc::{AllocError, Global};
 use std::sync::atomic::{AtomicBool, Ordering};
 use std::sync::{Mutex, Wait};
 use std::thread;
-
-// The most lines that a caller is sent before the others have their turn.
-const MOST_IN_A_ROW: u32 = 256;
-
-/// Feeds one caller.
-#[derive(Drop)]
-pub(crate) struct Feed {
-    end: SendEnd,
-    plan: Plan,
-    caller: u32,
-    sent: u32,
-    making: Making,
-    next: Option<FedLine>,
-    ghost range: { CanBeMade plan × (1 ≤ caller) × (caller ≤ plan.callers) },
-    ghost lines: { (view end.pass).lines ≡ lines_from plan.number plan.callers caller 0 sent },
-    ghost next_is: { ForSome next (λ line. (line.made < plan.lines)
-        × (line ≡ fed_at plan.number plan.callers (before_line plan.callers caller sent))) },
-}
-
-/// What became of the lines of callers.
-#[derive(Clone, Copy, PartialEq, Eq)]
-pub(crate) enum Step {
-    /// No line is left to be sent.
-    Done,
-    /// No line was sent, and some are left.
-    Waits,
-    /// A line was sent.
-    Sent,
-}
-
-// Makes a caller's next line after so many, if there is one.
-fn line_after(making: &mut Making, plan: Plan, caller: u32, sent: u32) -> Option<FedLine>
-    requires { CanBeMade plan × (1 ≤ caller) × (caller ≤ plan.callers) × (sent ≤ plan.lines) }
-    ensures { IfSome result (λ line. (line.made < plan.lines)
-        × (line ≡ fed_at plan.number plan.callers (before_line plan.callers caller sent))) }
-{
-    let made = sent * plan.callers + (caller - 1);
-    if made >= plan.lines {
-        return None;
-    }
-    Some(making.line(Wanted {
-        number: plan.number,
-        callers: plan.callers,
-        made,
-    }))
-}
-
-impl Feed {
-    fn new(end: SendEnd, plan: Plan, caller: u32) -> Feed
-        requires range { CanBeMade plan × (1 ≤ caller) × (caller ≤ plan.callers) }
-        requires none { (view end.pass).lines ≡ [] }
-    {
-        let mut making = Making::new(plan.number, plan.callers);
-        let next = line_after(&mut making, plan, caller, 0);
-        Feed {
-            end,
-            plan,
-            caller,
-            sent: 0,
-            making,
-            next,
-        }
-    }
-
-    // Offers the caller its next line.
-    fn step<R: Wait>(&mut self, rt: &R) -> Step {
-        let Some(line) = self.next else {
-            return Step::Done;
-        };
-        match self.end.offer(rt, line) {
-            Offer::Sent => {
-                let sent = self.sent + 1;
-                let next = line_after(&mut self.making, self.plan, self.caller, sent);
-                self.sent = sent;
-                self.next = next;
-                Step::Sent
-            }
-            Offer::Full => Step::Waits,
-            Offer::Gone => Step::Done,
-        }
-    }
-
-    // Sends the caller lines while there is room.
-    fn steps<R: Wait>(&mut self, rt: &R) -> Step {
-        for sent in 0..MOST_IN_A_ROW {
-            match self.step(rt) {
-                Step::Sent => {}
-                end => return if sent == 0 { end } else { Step::Sent },
-            }
-        }
-        Step::Sent
-    }
-}
+use std::thread::Threads;
 
 /// Makes the lines of all callers and sends each to its caller. It holds a line for each caller.
 #[derive(Drop)]
 pub struct Feeder {
+    plan: Plan,
     feeds: Vec<Feed>,
+    ghost feed_of_each: { map feed_of feeds.items ≡ callers_of plan },
 }
 
 // Sends each caller lines while there is room.
-fn feed_all<R: Wait>(rt: &R, feeds: &mut [Feed]) -> Step {
+fn feed_all<R: Wait>(rt: &R, feeds: &mut Vec<Feed>) -> Step
+    ensures { map feed_of feeds.new.items ≡ map feed_of feeds.old.items }
+{
     let mut all = Step::Done;
-    'feeds: for feed in feeds {
-        match feed.steps(rt) {
-            Step::Sent => all = Step::Sent,
-            Step::Waits => {
-                if all == Step::Done {
-                    all = Step::Waits;
-                }
-            }
-            Step::Done => {}
-        }
+    for at in 0..feeds.len() {
+        let step = feeds[at].steps(rt);
+        all = all.and(step);
     }
     all
 }
 
+// Whether each caller was sent all its lines.
+fn all_done(feeds: &[Feed]) -> bool
+    ensures { result ≡ true → All IsFed feeds.now }
+{
+    'feeds: for feed in feeds {
+        if !feed.is_done() {
+            return false;
+        }
+    }
+    true
+}
+
 impl Feeder {
-    /// Feeds until all lines are sent, or until `stop` is set.
-    pub fn run<R: Wait>(self, rt: &R, stop: &AtomicBool) {
-        let Feeder { mut feeds } = self;
+    /// Feeds until all lines are sent, until `stop` is set, or until nobody takes lines any more.
+    /// Returns whether each caller was sent all its lines.
+    pub fn run<R: Wait>(&mut self, rt: &R, stop: &AtomicBool) -> bool
+        ensures plan { self.new.plan ≡ self.old.plan }
+        ensures all { result ≡ true → All IsFed self.new.feeds.items }
+    {
         for _ in rt.forever() {
             if stop.load(Ordering::SeqCst) {
-                return;
+                break;
             }
-            match feed_all(rt, feeds.as_mut_slice()) {
-                Step::Done => return,
+            match feed_all(rt, &mut self.feeds) {
+                Step::Done => break,
                 Step::Waits => thread::yield_now(),
                 Step::Sent => {}
             }
         }
+        all_done(&self.feeds)
     }
 }
 
@@ -166,7 +84,7 @@ pub fn open_feed<'a, R>(
 ) -> Result<(FeedLines<'a, R>, Feeder), AllocError>
     requires plan { CanBeMade plan }
     requires capacity { 0 < capacity }
-    ensures { IfOk result (λ opened. opened.0.plan ≡ plan) }
+    ensures { IfOk result (λ opened. (opened.0.plan ≡ plan) × (opened.1.plan ≡ plan)) }
 {
     let mut hands = Vec::with_capacity(alloc, plan.callers as usize)?;
     let mut feeds = Vec::with_capacity(alloc, plan.callers as usize)?;
@@ -176,5 +94,36 @@ pub fn open_feed<'a, R>(
         let making = Making::new(plan.number, plan.callers);
         hands.push(Mutex::new(Hand::new(taking, making)))?;
     }
-    Ok((FeedLines::new(rt, plan, hands), Feeder { feeds }))
+    Ok((FeedLines::new(rt, plan, hands), Feeder { plan, feeds }))
+}
+
+/// Calls `play` in this thread while a feeder runs in another one. The feeder is stopped when `play`
+/// has returned. If no thread can be made for it, it is run after `play`, and sends nothing.
+///
+/// Returns what `play` returned, and whether the feeder sent all lines.
+pub fn feed_beside<R, T, F>(rt: &R, feeder: Feeder, play: F) -> (T, bool)
+where
+    R: Threads + Wait + Sync,
+    F: FnOnce() -> T,
+    requires { F.pre play }
+    ensures { F.post play result.0 }
+{
+    let stop = AtomicBool::new(false);
+    let flag = &stop;
+    let (sent_all, played) = thread::join(
+        rt,
+        move || -> bool {
+            let mut feeder = feeder;
+            feeder.run(rt, flag)
+        },
+        move || -> T
+            requires { F.pre play }
+            ensures { F.post play result }
+        {
+            let played = play();
+            flag.store(true, Ordering::SeqCst);
+            played
+        },
+    );
+    (played, sent_all)
 }

@@ -3,6 +3,7 @@
 
 mod channel;
 mod fed;
+mod feed;
 mod feeder;
 mod hand;
 mod laws;
@@ -10,7 +11,7 @@ mod lines;
 mod making;
 mod plan;
 
-pub use feeder::{Feeder, open_feed};
+pub use feeder::{Feeder, feed_beside, open_feed};
 pub use laws::plan_laws;
 pub use lines::FeedLines;
 pub use plan::Plan;

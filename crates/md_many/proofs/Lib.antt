@@ -18,6 +18,5 @@ pub mod Serial
 pub mod Reaching
 pub mod Weighing
 pub mod Bodies
-pub mod Replacing
 pub mod Moving
 pub mod Telling

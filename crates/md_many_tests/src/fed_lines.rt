@@ -3,7 +3,7 @@
 ghost use Rattle.std.specs.Prelude.{◌≤◌, ◌<◌};
 ghost use Rattle.md_feed_lines.specs.Planned.{CanBeMade};
 
-use md_feed_lines::{FeedLines, Feeder, Plan, open_feed};
+use md_feed_lines::{FeedLines, Plan, open_feed};
 use md_many_attempts::Lines;
 use md_orders::{Scripts, make};
 use std::alloc::AllocGlobal;
@@ -12,7 +12,7 @@ use std::sync::Wait;
 use std::sync::atomic::AtomicBool;
 
 // How many lines of a caller aren't those of its script. Each is asked for twice.
-fn wrong_lines<R: Wait + Sync>(lines: &FeedLines<'_, R>, scripts: &Scripts, caller: u32) -> u64 {
+pub(crate) fn wrong_lines<R: Wait + Sync>(lines: &FeedLines<'_, R>, scripts: &Scripts, caller: u32) -> u64 {
     let mut wrong = 0u64;
     for before in 0..scripts.len(caller) {
         let line = before + 1;
@@ -36,26 +36,17 @@ fn all_wrong<R: Wait + Sync>(lines: &FeedLines<'_, R>, scripts: &Scripts) -> u64
 
 // Takes all lines, after the feeder ran. It sends all lines if a channel holds as many as a caller
 // has, and none if it was stopped before.
-fn take_all<R: Wait + Sync>(
-    rt: &R,
-    lines: &FeedLines<'_, R>,
-    scripts: &Scripts,
-    feeder: Feeder,
-    stopped: bool,
-) -> u64 {
-    let stop = AtomicBool::new(stopped);
-    feeder.run(rt, &stop);
-    all_wrong(lines, scripts)
-}
-
 fn plays_all<R: Abort + AllocGlobal + Wait + Sync>(rt: &R, plan: Plan, capacity: u32, stopped: bool)
     requires plan { CanBeMade plan }
     requires capacity { 0 < capacity }
 {
     let alloc = rt.alloc();
     let scripts = make(alloc, plan.number, plan.lines, plan.callers).expect(rt, "memory");
-    let (lines, feeder) = open_feed(rt, alloc, plan, capacity).expect(rt, "memory");
-    let wrong = take_all(rt, &lines, &scripts, feeder, stopped);
+    let (lines, mut feeder) = open_feed(rt, alloc, plan, capacity).expect(rt, "memory");
+    let stop = AtomicBool::new(stopped);
+    let sent_all = feeder.run(rt, &stop);
+    assert!(rt; sent_all != stopped, "sent all: {sent_all}");
+    let wrong = all_wrong(&lines, &scripts);
     assert!(rt; wrong == 0, "{wrong} lines are wrong");
 }
 

@@ -3,8 +3,8 @@ use Rattle.std.proofs.lemmas.Nat.{mul-le}
 use Rattle.md_feed_lines.specs.declared.fed.FedLine.{FedLine}
 use Rattle.md_feed_lines.specs.Made.{before_line}
 use Rattle.md_feed_lines.specs.Fed.{fed_at, lines_from}
-use Rattle.md_feed_lines.proofs.Relaying.{if-some, lines-push, next-first}
-use Rattle.md_feed_lines.proofs.feeder.Feed.step.Goals as goal
+use Rattle.md_feed_lines.proofs.Relaying.{if-some, if-none, lines-push, next-first}
+use Rattle.md_feed_lines.proofs.feed.Feed.step.Goals as goal
 
 pub offer-requires : goal.offer-requires
 offer-requires g c =
@@ -21,8 +21,8 @@ line_after-next-requires g c =
     let more : feed.sent * 1 ≤ feed.sent * feed.plan.callers = mul-le feed.sent 1 feed.sent feed.plan.callers (omega arith) feed.range.0.some_caller in
     (feed.range.0, feed.range.1, feed.range.2, omega (arith, next.0, made, more))
 
-pub invariant_of-self : goal.invariant_of-self
-invariant_of-self g c =
+pub invariant_of-self-2 : goal.invariant_of-self-2
+invariant_of-self-2 g c =
     let feed = c.args.self.now in
     let next = feed.next_is c.in-Some.line c.in-Some.is in
     let one : suc feed.sent ≡ feed.sent + 1 = omega arith in
@@ -32,5 +32,6 @@ invariant_of-self g c =
           ∙ lines-push feed.plan.number feed.plan.callers feed.caller feed.sent _ c.in-Some.line feed.lines next.1
           ∙ ap (lines_from feed.plan.number feed.plan.callers feed.caller 0) one;
       next_is = λ x is. if-some c.line_after-next.result x (λ (line : FedLine). (line.made < feed.plan.lines)
-          × (line ≡ fed_at feed.plan.number feed.plan.callers (before_line feed.plan.callers feed.caller (feed.sent + 1)))) is c.line_after-next.ensures;
+          × (line ≡ fed_at feed.plan.number feed.plan.callers (before_line feed.plan.callers feed.caller (feed.sent + 1)))) is c.line_after-next.ensures.line;
+      none_left = λ is. if-none c.line_after-next.result (feed.plan.lines ≤ before_line feed.plan.callers feed.caller (feed.sent + 1)) is c.line_after-next.ensures.none;
     }
