@@ -5,7 +5,7 @@ A hash table has 1,048,576 buckets and keys below 1,000,000, of which half are t
 transactions of 1 to 10 operations: of 2 operations one is an insert and one a remove (0:1:1), or there are 2 or 18 gets
 beside them (2:1:1, 18:1:1). The programs are
 
-- medley: the crate medley_bench_micro, whose store has a lane for each thread, and two for one thread;
+- medley: `medley_bench transactions`, whose store has a lane for each thread, and two for one thread;
 - one lane: the same with one thread and one lane, whose words are private;
 - lockfree: the operations one after another on Michael's table of plain atomics, without transactions;
 - locks: the same table under 4,096 locks, which a transaction takes in order;
@@ -25,8 +25,8 @@ import subprocess
 import tempfile
 
 HERE = os.path.dirname(os.path.abspath(__file__))
-CRATE = os.path.join(HERE, "..", "crates", "medley_bench_micro")
-OURS = os.path.join(CRATE, "out", "medley_bench_micro")
+CRATE = os.path.join(HERE, "..", "crates", "medley_bench")
+OURS = os.path.join(CRATE, "out", "medley_bench")
 PROGRAMS = ("medley", "one lane", "lockfree", "locks", "shards", "mutex")
 BASE = "lockfree"
 RATIOS = (0, 2, 18)
@@ -36,7 +36,7 @@ OPERATIONS = 5.5
 
 
 def build(folder):
-    run_nothing = ["rt", "run", "--", "1", "2", "0", "0", "1"]
+    run_nothing = ["rt", "run", "--", "loads", "0"]
     subprocess.run(run_nothing, cwd=CRATE, check=True, stdout=subprocess.DEVNULL, stderr=subprocess.DEVNULL)
     plain = os.path.join(folder, "micro")
     options = ["--edition", "2024", "-C", "opt-level=3", "-C", "codegen-units=1", "-C", "panic=abort"]
@@ -50,7 +50,7 @@ def words_of(program, plain, threads, transactions, gets):
     lanes = 1 if program == "one lane" else max(2, threads)
     # One operation in `gets + 2` is an insert, and half of the inserts add a key.
     nodes = transactions * 3 // (gets + 2) + 10_000
-    return [OURS, threads, lanes, transactions, gets, nodes]
+    return [OURS, "transactions", threads, lanes, transactions, gets, nodes]
 
 
 def run(program, plain, threads, transactions, gets):

@@ -1,4 +1,4 @@
-//! The same transactions as those of `crates/medley_bench_micro/src/draws.rt`.
+//! The same transactions as those of `crates/medley_bench/src/draws.rt`.
 
 pub const KEYS: u64 = 1_000_000;
 pub const BUCKETS: usize = 1 << 20;

@@ -4,6 +4,7 @@ use Rattle.std.specs.Int.{bit_at, bit_not, trailing_zeros}
 use Rattle.std.specs.List.{range_with_len}
 use Rattle.std.proofs.lemmas.Bool.{cond_both, cases_eq, cases_lt, cond-true, cond-false, le-leb, lt-leb}
 use Rattle.std.proofs.lemmas.Nat.Bits.{bit_at-zero, bit_at-trailing_zeros, bit_at_clear_same, bit_at_clear_other, bit_at_or, bit_at_and, bit_at_xor, bit_at-lt, bit_at_mask_inside, bit_at_mask_below, bit_at_ones, bit_at_ones_above, bit_at_above, ones_shl, ones_shr}
+use Rattle.md_words.specs.declared.limits.TheConstants.{LANES}
 use Rattle.md_words.specs.declared.shape.Shape.{Shape}
 use Rattle.md_history.specs.Front.{is_lane_of}
 use Rattle.md_rule_lanes.specs.LaneSet.{has_lane, lanes_in}
@@ -135,7 +136,7 @@ high_pass p a (suc n) (suc k) t = at_first p a n (λ l. suc k < length l → get
 -- the empty set
 pub lanes_none : lanes_in 0 ≡ []
 unfolding lanes_in
-lanes_none = none_pass (has_lane 0) 0 64 (λ i h. ap (λ b. b == 1) (bit_at-zero i))
+lanes_none = none_pass (has_lane 0) 0 LANES (λ i h. ap (λ b. b == 1) (bit_at-zero i))
 
 pub lanes_some : (bits : ℕ) → 0 < length (lanes_in bits) → 0 < bits
 lanes_some zero some = absurd (let none = ap length lanes_none in omega (arith, some, none))
@@ -151,7 +152,7 @@ unfolding lanes_in
 lanes_first bits some fits =
     let z = trailing_zeros w64 bits in
     let low = bit_at-trailing_zeros w64 bits some fits in
-    first_passes (has_lane bits) (has_lane (cleared bits z)) 0 64 z (omega arith) low.0 (ap (λ b. b == 1) low.1) (ap (λ b. b == 1) (bit_at_clear_same w64 bits z low.0))
+    first_passes (has_lane bits) (has_lane (cleared bits z)) 0 LANES z (omega arith) low.0 (ap (λ b. b == 1) low.1) (ap (λ b. b == 1) (bit_at_clear_same w64 bits z low.0))
     (λ i h. ap (λ b. b == 1) (low.2 i h)) (λ i k ne. ap (λ b. b == 1) (bit_at_clear_other w64 bits z low.0 i k ne))
 
 -- the bits from a lane on, and those below it
@@ -161,28 +162,28 @@ high_bits bits t = bit_and bits ((2 ^ 64 - 1) * 2 ^ t % 2 ^ 64)
 abbrev pub low_bits : (bits t : ℕ) → ℕ
 low_bits bits t = bit_xor bits (high_bits bits t)
 
-high_bit : (bits t i : ℕ) → t < 64 → i < 64 → t ≤ i → bit_at (high_bits bits t) i ≡ bit_at bits i
+high_bit : (bits t i : ℕ) → t < LANES → i < LANES → t ≤ i → bit_at (high_bits bits t) i ≡ bit_at bits i
 high_bit bits t i inside fits h =
     let x = bit_at-lt bits i in
     bit_at_and bits ((2 ^ 64 - 1) * 2 ^ t % 2 ^ 64) i
     ∙ ap (λ m. min (bit_at bits i) (bit_at m i)) (ones_shl 64 t (omega (arith, inside)))
-    ∙ ap (min (bit_at bits i)) (bit_at_mask_inside t 64 i h fits)
+    ∙ ap (min (bit_at bits i)) (bit_at_mask_inside t LANES i h fits)
     ∙ omega (arith, x)
 
-high_bit-below : (bits t i : ℕ) → t < 64 → i < t → bit_at (high_bits bits t) i ≡ 0
+high_bit-below : (bits t i : ℕ) → t < LANES → i < t → bit_at (high_bits bits t) i ≡ 0
 high_bit-below bits t i inside h =
     bit_at_and bits ((2 ^ 64 - 1) * 2 ^ t % 2 ^ 64) i
     ∙ ap (λ m. min (bit_at bits i) (bit_at m i)) (ones_shl 64 t (omega (arith, inside)))
-    ∙ ap (min (bit_at bits i)) (bit_at_mask_below t 64 i h)
+    ∙ ap (min (bit_at bits i)) (bit_at_mask_below t LANES i h)
     ∙ omega arith
 
-has_high : (bits t i : ℕ) → t < 64 → i < 64 → has_lane (high_bits bits t) i ≡ from (has_lane bits) t i
+has_high : (bits t i : ℕ) → t < LANES → i < LANES → has_lane (high_bits bits t) i ≡ from (has_lane bits) t i
 has_high bits t i inside fits = ⊎_elim
     (λ (h : i < t). ap (λ b. b == 1) (high_bit-below bits t i inside h) ∙ sym (and_off (has_lane bits i) (nat_le t i) (lt-leb t i h)))
     (λ (h : t ≤ i). ap (λ b. b == 1) (high_bit bits t i inside fits h) ∙ sym (and_on (has_lane bits i) (nat_le t i) (le-leb t i h)))
     (cases_lt i t)
 
-has_low : (bits t i : ℕ) → t < 64 → i < 64 → has_lane (low_bits bits t) i ≡ below (has_lane bits) t i
+has_low : (bits t i : ℕ) → t < LANES → i < LANES → has_lane (low_bits bits t) i ≡ below (has_lane bits) t i
 has_low bits t i inside fits =
     let x = bit_at-lt bits i in
     ⊎_elim
@@ -196,30 +197,30 @@ has_low bits t i inside fits =
     ∙ sym (and_off (has_lane bits i) (nat_lt i t) (lt-leb (suc i) t (omega (arith, h)))))
     (cases_lt i t)
 
-pub lanes_from : (bits k t : ℕ) → k < length (lanes_in bits) → get_or (lanes_in bits) k 0 ≡ t → t < 64 → lanes_in (high_bits bits t) ≡ drop k (lanes_in bits)
+pub lanes_from : (bits k t : ℕ) → k < length (lanes_in bits) → get_or (lanes_in bits) k 0 ≡ t → t < LANES → lanes_in (high_bits bits t) ≡ drop k (lanes_in bits)
 unfolding lanes_in
-lanes_from bits k t inside is fits = same_pass (has_lane (high_bits bits t)) (from (has_lane bits) t) 0 64 (λ i _ h. has_high bits t i fits h) ∙ high_pass (has_lane bits) 0 64 k t inside is
+lanes_from bits k t inside is fits = same_pass (has_lane (high_bits bits t)) (from (has_lane bits) t) 0 LANES (λ i _ h. has_high bits t i fits h) ∙ high_pass (has_lane bits) 0 LANES k t inside is
 
-pub lanes_below : (bits k t : ℕ) → k < length (lanes_in bits) → get_or (lanes_in bits) k 0 ≡ t → t < 64 → lanes_in (low_bits bits t) ≡ take k (lanes_in bits)
+pub lanes_below : (bits k t : ℕ) → k < length (lanes_in bits) → get_or (lanes_in bits) k 0 ≡ t → t < LANES → lanes_in (low_bits bits t) ≡ take k (lanes_in bits)
 unfolding lanes_in
-lanes_below bits k t inside is fits = same_pass (has_lane (low_bits bits t)) (below (has_lane bits) t) 0 64 (λ i _ h. has_low bits t i fits h) ∙ low_pass (has_lane bits) 0 64 k t inside is
+lanes_below bits k t inside is fits = same_pass (has_lane (low_bits bits t)) (below (has_lane bits) t) 0 LANES (λ i _ h. has_low bits t i fits h) ∙ low_pass (has_lane bits) 0 LANES k t inside is
 
 -- all lanes below a number
-pub lanes_all : (n : ℕ) → n ≤ 64 → lanes_in ((2 ^ 64 - 1) / 2 ^ (64 - n)) ≡ range_with_len 0 n
+pub lanes_all : (n : ℕ) → n ≤ LANES → lanes_in ((2 ^ 64 - 1) / 2 ^ (LANES - n)) ≡ range_with_len 0 n
 unfolding lanes_in
 lanes_all n fits =
-    let e : n + (64 - n) ≡ 64 = omega (arith, fits) in
-    let back : 64 - (64 - n) ≡ n = omega (arith, fits) in
+    let e : n + (LANES - n) ≡ LANES = omega (arith, fits) in
+    let back : LANES - (LANES - n) ≡ n = omega (arith, fits) in
     let p = has_lane (2 ^ n - 1) in
-    ap (λ bits. filter (has_lane bits) (range_with_len 0 64)) (ones_shr 64 (64 - n) (omega arith) ∙ ap (λ k. 2 ^ k - 1) back)
+    ap (λ bits. filter (has_lane bits) (range_with_len 0 LANES)) (ones_shr 64 (LANES - n) (omega arith) ∙ ap (λ k. 2 ^ k - 1) back)
     ∙ ap (λ k. filter p (range_with_len 0 k)) (sym e)
-    ∙ short_pass p 0 n (64 - n) (λ i h. ap (λ b. b == 1) (bit_at_ones_above n i (omega (arith, h))))
+    ∙ short_pass p 0 n (LANES - n) (λ i h. ap (λ b. b == 1) (bit_at_ones_above n i (omega (arith, h))))
     ∙ all_pass p 0 n (λ i h. ap (λ b. b == 1) (bit_at_ones n i (omega (arith, h))))
 
 -- a lane is in the list exactly where its bit is 1
-pub lane_is_in : (bits l : ℕ) → l < 64 → is_lane_of (lanes_in bits) l ≡ has_lane bits l
+pub lane_is_in : (bits l : ℕ) → l < LANES → is_lane_of (lanes_in bits) l ≡ has_lane bits l
 unfolding lanes_in
-lane_is_in bits l fits = any_pass (has_lane bits) 0 64 l (omega arith) (omega (arith, fits))
+lane_is_in bits l fits = any_pass (has_lane bits) 0 LANES l (omega arith) (omega (arith, fits))
 
 -- the lanes of both of two sets, all of which are below a number
 one_of : (x y : ℕ) → x < 2 → y < 2 → (max x y == 1) ≡ ((x == 1) || (y == 1))
@@ -235,28 +236,28 @@ has_both a b i = ap (λ n. n == 1) (bit_at_or a b i) ∙ one_of (bit_at a i) (bi
 
 -- where a set has no lane from some number on, its bits are 0 there
 pub no_lanes : (bits n : ℕ) → bits < 2 ^ 64 → ((i : ℕ) → n ≤ i → is_lane_of (lanes_in bits) i ≡ false) → (i : ℕ) → n ≤ i → has_lane bits i ≡ false
-no_lanes bits n fits none i h = ⊎_elim (λ (k : i < 64). sym (lane_is_in bits i k) ∙ none i h) (λ (k : 64 ≤ i). ap (λ b. b == 1) (bit_at_above bits 64 i fits k)) (cases_lt i 64)
+no_lanes bits n fits none i h = ⊎_elim (λ (k : i < LANES). sym (lane_is_in bits i k) ∙ none i h) (λ (k : LANES ≤ i). ap (λ b. b == 1) (bit_at_above bits 64 i fits k)) (cases_lt i LANES)
 
-pub lanes_or : (a b n : ℕ) → n ≤ 64 → ((i : ℕ) → n ≤ i → has_lane a i ≡ false) → ((i : ℕ) → n ≤ i → has_lane b i ≡ false)
+pub lanes_or : (a b n : ℕ) → n ≤ LANES → ((i : ℕ) → n ≤ i → has_lane a i ≡ false) → ((i : ℕ) → n ≤ i → has_lane b i ≡ false)
     → lanes_in (bit_or a b) ≡ filter (λ l. is_lane_of (lanes_in a) l || is_lane_of (lanes_in b) l) (range_with_len 0 n)
 unfolding lanes_in
 lanes_or a b n fits none_a none_b =
-    let e : n + (64 - n) ≡ 64 = omega (arith, fits) in
+    let e : n + (LANES - n) ≡ LANES = omega (arith, fits) in
     let p = has_lane (bit_or a b) in
     ap (λ k. filter p (range_with_len 0 k)) (sym e)
-    ∙ short_pass p 0 n (64 - n) (λ i h. has_both a b i ∙ ap (λ c. c || has_lane b i) (none_a i (omega (arith, h))) ∙ none_b i (omega (arith, h)))
-    ∙ same_pass p (λ l. is_lane_of (filter (has_lane a) (range_with_len 0 64)) l || is_lane_of (filter (has_lane b) (range_with_len 0 64)) l) 0 n
-    (λ i _ h. has_both a b i ∙ sym (ap (λ c. c || is_lane_of (filter (has_lane b) (range_with_len 0 64)) i) (any_pass (has_lane a) 0 64 i (omega arith) (omega (arith, h, fits)))
-    ∙ ap (λ c. has_lane a i || c) (any_pass (has_lane b) 0 64 i (omega arith) (omega (arith, h, fits)))))
+    ∙ short_pass p 0 n (LANES - n) (λ i h. has_both a b i ∙ ap (λ c. c || has_lane b i) (none_a i (omega (arith, h))) ∙ none_b i (omega (arith, h)))
+    ∙ same_pass p (λ l. is_lane_of (filter (has_lane a) (range_with_len 0 LANES)) l || is_lane_of (filter (has_lane b) (range_with_len 0 LANES)) l) 0 n
+    (λ i _ h. has_both a b i ∙ sym (ap (λ c. c || is_lane_of (filter (has_lane b) (range_with_len 0 LANES)) i) (any_pass (has_lane a) 0 LANES i (omega arith) (omega (arith, h, fits)))
+    ∙ ap (λ c. has_lane a i || c) (any_pass (has_lane b) 0 LANES i (omega arith) (omega (arith, h, fits)))))
 
--- no set has more than 64 lanes, and each of them is below 64
+-- no set has more lanes than a shape may have, and each of them is one of these
 few : (p : ℕ → Bool) (a n : ℕ) → length (filter p (range_with_len a n)) ≤ n
 few p a zero = omega arith
 few p a (suc n) = at_first p a n (λ l. length l ≤ suc n) (λ _. let h = few p (a + 1) n in omega (arith, h)) (λ _. let h = few p (a + 1) n in omega (arith, h))
 
-pub lanes_few : (bits : ℕ) → length (lanes_in bits) ≤ 64
+pub lanes_few : (bits : ℕ) → length (lanes_in bits) ≤ LANES
 unfolding lanes_in
-lanes_few bits = few (has_lane bits) 0 64
+lanes_few bits = few (has_lane bits) 0 LANES
 
 passed_below : (p : ℕ → Bool) (a n k : ℕ) → k < length (filter p (range_with_len a n)) → get_or (filter p (range_with_len a n)) k 0 < a + n
 passed_below p a zero k = λ inside. absurd (omega (arith, inside))
@@ -265,12 +266,12 @@ passed_below p a (suc n) (suc k) = at_first p a n (λ l. suc k < length l → ge
     (λ _ inside. let h = passed_below p (a + 1) n k (omega (arith, inside)) in omega (arith, h))
     (λ _ inside. let h = passed_below p (a + 1) n (suc k) inside in omega (arith, h))
 
-pub lanes_fit : (bits k : ℕ) → k < length (lanes_in bits) → get_or (lanes_in bits) k 0 < 64
+pub lanes_fit : (bits k : ℕ) → k < length (lanes_in bits) → get_or (lanes_in bits) k 0 < LANES
 unfolding lanes_in
-lanes_fit bits k inside = passed_below (has_lane bits) 0 64 k inside
+lanes_fit bits k inside = passed_below (has_lane bits) 0 LANES k inside
 
--- a shape has at most 64 lanes, and one at least
-pub few_lanes : (shape : Shape) → shape.lanes ≤ 64
+-- a shape has at most so many lanes, and one at least
+pub few_lanes : (shape : Shape) → shape.lanes ≤ LANES
 few_lanes shape = shape.in_range.lanes_fit.1
 
 pub some_lanes : (shape : Shape) → 1 ≤ shape.lanes

@@ -8,7 +8,7 @@ use Rattle.md_words.specs.Lanes.{node_of}
 use Rattle.md_machine.specs.FreeToReturn.{KnowsFree}
 use Rattle.md_machine.specs.declared.pass.PassView.{PassView}
 use Rattle.md_rule_lanes.specs.declared.shares.Share.{Share}
-use Rattle.md_rule_lanes.specs.declared.shares.TheConstants.{UNUSED}
+use Rattle.md_rule_lanes.specs.declared.shares.TheConstants.{SHARES, UNUSED}
 
 -- the share of a lane
 abbrev pub share_at : List Share → (lane : ℕ) → Share
@@ -16,7 +16,7 @@ share_at shares lane = get_or shares lane UNUSED
 
 -- the shares of two passes that are joined: those of the other's lanes are the other's
 unfoldable pub joined_shares : (lanes : List ℕ) → (mine others : List Share) → List Share
-joined_shares lanes mine others = map (λ lane. if is_lane_of lanes lane then share_at others lane else share_at mine lane) (range_with_len 0 64)
+joined_shares lanes mine others = map (λ lane. if is_lane_of lanes lane then share_at others lane else share_at mine lane) (range_with_len 0 SHARES)
 
 -- the share of one lane changed
 abbrev pub with_share : List Share → (lane : ℕ) → Share → List Share

@@ -2,14 +2,16 @@
 
 ghost use Rattle.std.specs.Prelude.{◌≡◌, ◌∷◌, ◌<◌, ◌≤◌, ◌↔◌, ℕ, IsTrue, length, slice_index, false};
 ghost use Rattle.std.specs.List.{Contains, range_with_len};
+ghost use Rattle.md_words.specs.declared.limits.TheConstants.{LANES};
 ghost use Rattle.md_history.specs.Front.{is_lane_of};
 ghost use Rattle.md_machine.specs.events.SplitJoin.{kept_lanes, given_lanes, joined_lanes};
 ghost use Rattle.md_rule_lanes.specs.LaneSet.{lanes_in};
 
-use md_words::Shape;
+use md_words::{LANES, Shape};
 use std::marker::Model;
 
-/// A set of lanes below 64. Clauses see them in rising order.
+/// A set of lanes, with a bit for each of the `LANES` that a shape may have. Clauses see them in
+/// rising order.
 #[derive(Drop)]
 pub struct Lanes {
     bits: u64,
@@ -32,11 +34,11 @@ impl Model for Lanes {
 impl Lanes {
     /// The lanes below a number.
     pub fn all(count: u32) -> Lanes
-        requires { (1 ≤ count) × (count ≤ 64) }
+        requires { (1 ≤ count) × (count ≤ LANES) }
         ensures { result ≡ range_with_len 0 count }
     {
         Lanes {
-            bits: u64::MAX >> (64 - count),
+            bits: u64::MAX >> (LANES - count),
         }
     }
 
@@ -58,14 +60,14 @@ impl Lanes {
     pub fn at(&self, place: u32) -> u32
         requires { place < length self.now }
         ensures lane { result ≡ slice_index self.now place }
-        ensures below { result < 64 }
+        ensures below { result < LANES }
     {
         lane_at(self.bits, place)
     }
 
     /// Whether it has a lane.
     pub fn has(&self, lane: u32) -> bool
-        requires { lane < 64 }
+        requires { lane < LANES }
         ensures { result ≡ is_lane_of self.now lane }
     {
         self.bits >> lane & 1 == 1
@@ -128,7 +130,7 @@ fn count(bits: u64) -> u32
 fn lane_at(bits: u64, place: u32) -> u32
     requires { place < length (lanes_in bits) }
     ensures lane { result ≡ slice_index (lanes_in bits) place }
-    ensures below { result < 64 }
+    ensures below { result < LANES }
 {
     let mut rest = bits;
     let mut left = place;

@@ -5,11 +5,13 @@ ghost use Rattle.md_machine.specs.Event.{first_pass};
 ghost use Rattle.md_rule.specs.Views.{IsOf};
 
 mod arena;
+mod calm;
 mod cell;
 mod help;
 mod passes;
 mod stalls;
 mod tickets;
+mod transactions;
 
 use example_cell::CellTheory;
 use example_tickets::dispenser;

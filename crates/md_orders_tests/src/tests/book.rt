@@ -5,12 +5,11 @@ ghost use Rattle.md_book.specs.Stands.{IsBookSized};
 
 mod fills;
 mod kills;
-mod lawful;
 mod limits;
 mod rows;
 
+use crate::tests::in_range::is_lawful;
 use crate::tests::shown::same;
-use lawful::is_lawful;
 use md_book::{LEVELS, MAPS};
 use md_history::{Attempt, Contents, Engine, PlainPass, PlainStore};
 use rows::step_in;

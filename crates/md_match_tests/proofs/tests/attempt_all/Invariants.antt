@@ -1,5 +1,0 @@
-use Rattle.md_history.specs.Plain.{IsPassOf}
-use Rattle.md_match_tests.proofs.tests.attempt_all.Given as goal
-
-abbrev pub invariant-loop-command : goal.invariant-loop-command
-invariant-loop-command g l = IsPassOf l.store l.pass

@@ -1,7 +1,0 @@
-use Rattle.std.proofs.Common.{◌≡◌}
-use Rattle.md_nbtc.specs.State.{state}
-use Rattle.md_nbtc_tests.specs.Tested.{IsOpen}
-use Rattle.md_nbtc_tests.proofs.tests.note_many.Given as goal
-
-abbrev pub invariant-loop-bucket : goal.invariant-loop-bucket
-invariant-loop-bucket l = record { pass : l.txn.pass.ghost_name ≡ l.fn.txn.pass.ghost_name; open_still : IsOpen l.field (state l.txn) }
