@@ -15,8 +15,8 @@ pub record Raises (word count : ℕ) (s : Step) : Type 0 where
   pub from : count_of s.before ≡ count
   pub higher : count < count_of s.after
 
--- all steps that raised a counted word from one count are one step: the same steps of the segment were before it. Two
--- passes have it after a split
+-- all steps that raised a counted word from one count are equal, as are the steps of their segments before them: two
+-- passes have one step after a split
 abbrev pub RaisedOnce : Shape → List PassView → Type 0
 RaisedOnce shape passes = (word count : ℕ) → IsCounted shape word → (i j : ℕ) (p q : PassView)
     → get_elem? passes i ≡ some p → get_elem? passes j ≡ some q
