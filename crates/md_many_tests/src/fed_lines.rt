@@ -12,7 +12,11 @@ use std::sync::Wait;
 use std::sync::atomic::AtomicBool;
 
 // How many lines of a caller aren't those of its script. Each is asked for twice.
-pub(crate) fn wrong_lines<R: Wait + Sync>(lines: &FeedLines<'_, R>, scripts: &Scripts, caller: u32) -> u64 {
+pub(crate) fn wrong_lines<R: Wait + Sync>(
+    lines: &FeedLines<'_, R>,
+    scripts: &Scripts,
+    caller: u32,
+) -> u64 {
     let mut wrong = 0u64;
     for before in 0..scripts.len(caller) {
         let line = before + 1;

@@ -34,11 +34,11 @@ fn move_one<T: TxCalls>(t: &mut T, from: u64, to: u64) -> Result<(u64, u64), Sto
     ensures err { IfErr result (HasStopped (T.stop t.new)) }
     ensures kept { T.kept t.new ≡ T.kept t.old }
 {
-    let left = t.remove(0, from)?.unwrap_or(0);
-    let there = t.remove(0, to)?.unwrap_or(0);
+    let left = t.get(0, from)?.unwrap_or(0);
     let moved = left.min(1);
-    t.insert(0, from, left - moved)?;
-    t.insert(0, to, there.wrapping_add(moved))?;
+    t.put(0, from, left - moved)?;
+    let there = t.get(0, to)?.unwrap_or(0);
+    t.put(0, to, there.wrapping_add(moved))?;
     Ok((left, there))
 }
 

@@ -16,19 +16,20 @@ fn two_lanes<R: Abort>(rt: &R) -> Shape {
 }
 
 // Makes a transfer, again after each conflict. Returns what both keys had, or none after a limit.
-fn moved(
-    store: &Store,
-    pass: &mut StorePass,
-    from: u64,
-    to: u64,
-    tries: u32,
-) -> Option<(u64, u64)>
+fn moved(store: &Store, pass: &mut StorePass, from: u64, to: u64, tries: u32) -> Option<(u64, u64)>
     requires of { IsPassOf store.now pass.old }
     requires maps { store.now.origin.shape.maps ≡ 2 }
     ensures { IsPassOf store.now pass.new }
 {
     for tag in 0..tries {
-        match transfer(store, &mut pass.pass, &mut pass.sets, u64::from(tag), from, to) {
+        match transfer(
+            store,
+            &mut pass.pass,
+            &mut pass.sets,
+            u64::from(tag),
+            from,
+            to,
+        ) {
             Ok(had) => return Some(had),
             Err(Stop::Conflict(_)) => {}
             Err(_) => return None,
