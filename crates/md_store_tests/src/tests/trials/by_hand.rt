@@ -16,7 +16,13 @@ fn two_lanes<R: Abort>(rt: &R) -> Shape {
 }
 
 // Makes a transfer, again after each conflict. Returns what both keys had, or none after a limit.
-fn moved(store: &Store, pass: &mut StorePass, from: u64, to: u64, tries: u32) -> Option<(u64, u64)>
+fn found_by(
+    store: &Store,
+    pass: &mut StorePass,
+    from: u64,
+    to: u64,
+    tries: u32,
+) -> Option<(u64, u64)>
     requires of { IsPassOf store.now pass.old }
     requires maps { store.now.origin.shape.maps ≡ 2 }
     ensures { IsPassOf store.now pass.new }
@@ -46,7 +52,7 @@ fn all_moved(store: &Store, pass: &mut StorePass, from: u64, to: u64) -> Option<
 {
     let mut count = 0u64;
     for _ in 0..TRANSFERS {
-        let (left, there) = moved(store, pass, from, to, u32::MAX)?;
+        let (left, there) = found_by(store, pass, from, to, u32::MAX)?;
         if left.wrapping_add(there) != 2 * START {
             return None;
         }
