@@ -6,4 +6,4 @@ use Rattle.md_many_tests.proofs.beside.wrong_of_three.Goals as goal
 pub join-first-requires-send-F : goal.join-first-requires-send-F
 join-first-requires-send-F g c κs within =
     let sync = c.type_bounds.sync-R in
-    search (sendable, crosses, lines-sync) depth 40
+    search (sendable, crosses, lines-sync) depth 40 fits 100000
