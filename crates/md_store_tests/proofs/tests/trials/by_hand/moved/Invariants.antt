@@ -1,5 +1,0 @@
-use Rattle.md_store.specs.Store.{IsPassOf}
-use Rattle.md_store_tests.proofs.tests.trials.by_hand.moved.Given as goal
-
-abbrev pub invariant-loop-tag : goal.invariant-loop-tag
-invariant-loop-tag l = IsPassOf l.store l.pass
