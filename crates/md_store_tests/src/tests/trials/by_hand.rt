@@ -1,5 +1,8 @@
 //! Two threads that move value between the same two keys, in transactions as plain code.
 
+ghost use Rattle.std.specs.Prelude.{◌≡◌};
+ghost use Rattle.md_store.specs.Store.{IsPassOf};
+
 use super::*;
 use md_history::Stop;
 use md_store_interleavings::transfer;
