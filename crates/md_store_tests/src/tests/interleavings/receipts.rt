@@ -29,7 +29,7 @@ fn receipt_of<R: Abort + AllocGlobal>(
 }
 
 // The look records the next word of key 1's node, and the insert changes the head of key 2's
-// bucket, whose count rises by two.
+// bucket, whose count is one more than that of the content which it replaces.
 #[test]
 fn a_receipt_has_the_words_with_their_counts(rt: HostRuntime) {
     let (store, mut a, _b) = divided(&rt, &[(1, 10)]);
@@ -37,7 +37,7 @@ fn a_receipt_has_the_words_with_their_counts(rt: HostRuntime) {
     let receipt = receipt_of(&rt, &store, &mut a.pass, &ops).expect(&rt, "a commit");
     same(&rt, &receipt.tag(), &7);
     same(&rt, &receipt.reads(), &[(72, 0)].as_slice());
-    same(&rt, &receipt.writes(), &[(3, 2)].as_slice());
+    same(&rt, &receipt.writes(), &[(3, 1)].as_slice());
 }
 
 // Makes the calls of a transfer of 1 from key 1 to key 2, and abandons it. Whether one was refused.
