@@ -54,7 +54,7 @@ use Rattle.md_nbtc_law.proofs.withdrawals.Held.{held_installed}
 -- what the last steps of a pass that holds all lanes left in a word stands there
 module _ (M : Meaning) (o : Origin) (m : Machine) (admitted : Admitted M o m) (pass : ℕ) (p : PassView) (acts : Acts m pass p) (all : HoldsAll o.shape p)
     (desc word held : ℕ) (began own : List Step) (trail : p.trail ≡ began ++ own) (l : LeftThere desc word held own) where
-  before : List Step
+  abbrev before : List Step
   before = began ++ l.earlier
 
   order : p.trail ≡ before ++ l.step ∷ l.later
@@ -63,14 +63,14 @@ module _ (M : Meaning) (o : Origin) (m : Machine) (admitted : Admitted M o m) (p
   stand : LastStand m p.trail
   stand = ((is_kept M o m admitted).alone pass p acts.at (subst (λ (s : Shape). HoldsAll s p) (sym admitted.shape) all)).words
 
-  Both : Step → Type 0
+  abbrev Both : Step → Type 0
   Both s = s.word ≡ word → (s.before ≡ held) × (s.after ≡ held)
 
   since : All Both l.later
   since = stays_held desc word held (before ++ l.step ∷ []) l.later (λ x last. last_at before l.step word x l.leaves.there last ∙ l.leaves.after)
       (chain_later [] before (l.step ∷ l.later) (subst (ChainsFrom []) order (chained M o m admitted pass p acts all))).1 l.unchanged
 
-  Left : Step → Type 0
+  abbrev Left : Step → Type 0
   Left s = s.word ≡ word → s.after ≡ held
 
   pub left_stands : content m word ≡ held
@@ -113,7 +113,7 @@ module _ (M : Meaning) (t : TxnState) (ready : IsReady M t) (all : HoldsAll (sha
   own_trail = trail_after (shape_in t) [] t.pass.view q goes ∙ append-nil t.pass.view.trail ∙ began_then t.began.view.trail t.pass.view.trail ready.has.since
 
   holds : HoldsAll (shape_in t) q
-  holds lane below = subst (λ l. Contains l lane) (sym (ap (λ (x : PassView). x.lanes) goes.1)) (all lane below)
+  holds = λ lane below. subst (λ l. Contains l lane) (sym (ap (λ (x : PassView). x.lanes) goes.1)) (all lane below)
 
   stands : (word held : ℕ) → LeftThere a.desc word held (own_steps t) → content m word ≡ held
   stands word held l = left_stands M t.field.origin m admitted pass q acts holds a.desc word held t.began.view.trail (own_steps t) own_trail l
