@@ -1,7 +1,7 @@
 -- A pass that holds all lanes: what a transaction saw in a word stands there.
-use Rattle.std.proofs.Common.{◌≡◌, ◌<◌, ◌^◌, ◌++◌, ℕ, true, false, List, [], ◌∷◌, Option, Some, None, is_some, refl, sym, ap, ◌∙◌, subst, ⊎_elim, append_assoc}
+use Rattle.std.proofs.Common.{◌≡◌, ◌<◌, ◌^◌, ℕ, true, false, List, Option, Some, None, is_some, refl, sym, ap, ◌∙◌, subst, ⊎_elim}
 use Rattle.std.proofs.lemmas.Bool.{cases_Bool, true≢false}
-use Rattle.std.proofs.lemmas.List.Elements.{All-contains, All-cons, All-weaker}
+use Rattle.std.proofs.lemmas.List.Elements.{All-contains}
 use Rattle.std.specs.List.{All, Contains}
 use Rattle.std.specs.Prelude.{option_map, unwrap_or}
 use Rattle.md_words.specs.declared.shape.Shape.{Shape}
@@ -13,17 +13,14 @@ use Rattle.md_words.proofs.Words.{count_of-counted_word, value_of-counted_word}
 use Rattle.md_machine.specs.declared.certificate.Certificate.{Certificate}
 use Rattle.md_machine.specs.declared.certificate.NewNode.{NewNode}
 use Rattle.md_machine.specs.declared.certificate.TidyChange.{TidyChange}
-use Rattle.md_machine.specs.declared.step.Step.{Step}
 use Rattle.md_machine.specs.Certified.{all_nodes, content_read, content_replaced, is_written}
 use Rattle.md_machine.specs.LogicalHeap.{LogicalHeap}
 use Rattle.md_machine.specs.Machine.{Machine, content}
 use Rattle.md_machine.specs.Meaning.{Lawful, Meaning}
 use Rattle.md_machine.specs.Resolution.{or_else}
-use Rattle.md_machine.specs.clauses.passes.Alone.{HoldsAll, IsAlone, LastStand}
+use Rattle.md_machine.specs.clauses.passes.Alone.{HoldsAll}
 use Rattle.md_machine.proofs.chain.Agree.{SameValues}
 use Rattle.md_machine.proofs.chain.Values.{value_even}
-use Rattle.md_machine.proofs.lists.Rising.{here}
-use Rattle.md_rule.proofs.Moves.{is_kept}
 use Rattle.md_nbtc_law.specs.declared.seen.Seen.{Seen}
 use Rattle.md_nbtc_law.specs.Going.{IsGoing}
 use Rattle.md_nbtc_law.specs.Known.{IsHeapOf, IsLater, Met, found_by}

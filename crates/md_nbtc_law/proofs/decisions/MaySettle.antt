@@ -1,5 +1,5 @@
 -- A transaction that is ready may be committed or aborted by the validation of its reads.
-use Rattle.std.proofs.Common.{◌≡◌, ◌<◌, ◌+◌, ◌++◌, ◌∷◌, ℕ, zero, suc, Bool, true, false, List, [], Option, Some, None, length, get_or, refl, sym, ap, ◌∙◌, subst, inl, inr, ⊎_elim, append_assoc, arith}
+use Rattle.std.proofs.Common.{◌≡◌, ◌<◌, ◌+◌, ◌++◌, ◌∷◌, ℕ, Bool, true, false, List, Option, Some, None, length, get_or, refl, sym, ap, ◌∙◌, subst, inl, inr, ⊎_elim, append_assoc, arith}
 use Rattle.std.proofs.lemmas.List.Elements.{All-weaker, Contains-append_right, Contains-push}
 use Rattle.std.specs.List.{All, Contains}
 use Rattle.md_words.specs.declared.shape.Shape.{Shape}
@@ -31,7 +31,7 @@ use Rattle.md_help.proofs.Deciding.{may_abort as abort_by, may_commit as commit_
 use Rattle.md_nbtc_law.specs.declared.slots.TheConstants.{NO_READ}
 use Rattle.md_nbtc_law.specs.Deciding.{FoundStanding, LooksAtCounted, MayDecide, Validates}
 use Rattle.md_nbtc_law.specs.Ending.{IsReady}
-use Rattle.md_nbtc_law.specs.Prepared.{EachFrom, IsRecorded}
+use Rattle.md_nbtc_law.specs.Prepared.{IsRecorded}
 use Rattle.md_nbtc_law.specs.State.{TxnState, attempt_in, own_steps, shape_in}
 use Rattle.md_nbtc_law.proofs.decisions.StandAlone.{each_get, stand_alone}
 use Rattle.md_nbtc_law.proofs.preparing.Quiet.{IsQuiet, stored_still}

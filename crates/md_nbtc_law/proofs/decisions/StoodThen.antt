@@ -1,32 +1,26 @@
 -- A read of a word that a ready transaction wrote stands as long as no step decided the transaction.
-use Rattle.std.proofs.Common.{◌≡◌, ◌==◌, ◌&&◌, ◌||◌, ◌≤◌, ◌+◌, ◌++◌, ◌∷◌, ℕ, Bool, true, false, [], Some, length, refl, sym, ap, ◌∙◌, subst, inl, inr, eq-eqb, arith}
+use Rattle.std.proofs.Common.{◌≡◌, ◌≤◌, ◌+◌, ◌++◌, ◌∷◌, false, [], Some, length, sym, ap, ◌∙◌, subst, inl, inr, arith}
 use Rattle.std.proofs.lemmas.Bool.{false≢true}
 use Rattle.std.proofs.lemmas.List.Elements.{All-contains, All-weaker, Contains-append_right, Contains-push}
 use Rattle.std.specs.List.{All, Contains}
-use Rattle.std.specs.Prelude.{not}
-use Rattle.md_words.specs.declared.content.Spot.{Spot}
-use Rattle.md_words.specs.Content.{count_of, is_even, spot_of, spot_value, value_of}
+use Rattle.md_words.specs.Content.{count_of}
 use Rattle.md_words.specs.Layout.{address}
 use Rattle.md_words.specs.Place.{desc_status}
 use Rattle.md_words.specs.PlaceAt.{IsCounted}
 use Rattle.md_words.specs.Status.{serial_of, status_of}
 use Rattle.md_words.specs.declared.shape.Shape.{Shape}
-use Rattle.md_words.proofs.Words.{count_of-counted_word}
 use Rattle.md_history.specs.declared.stops.Shown.{Shown}
 use Rattle.md_machine.specs.declared.attempt.AttemptId.{AttemptId}
 use Rattle.md_machine.specs.declared.attempt.Read.{Read}
 use Rattle.md_machine.specs.declared.attempt.Write.{Write}
 use Rattle.md_machine.specs.declared.pass.PassView.{PassView}
-use Rattle.md_machine.specs.declared.step.TheConstants.{LAST_COUNT}
 use Rattle.md_machine.specs.Certified.{first_content}
 use Rattle.md_machine.specs.Installs.{IsUndecided}
 use Rattle.md_machine.specs.Machine.{Install, IsPresentIn, Machine, content, shape_of, status_at}
 use Rattle.md_machine.specs.Theorem.{IsKept}
 use Rattle.md_machine.specs.clauses.words.Stamps.{IsNoted}
-use Rattle.md_machine.proofs.events.Leaves.{install_odd}
 use Rattle.md_machine.specs.Meaning.{Meaning}
 use Rattle.md_machine.specs.Trail.{Meets, SomeStepOf, read_stands}
-use Rattle.md_machine.specs.events.Install.{installed_word}
 use Rattle.md_machine.proofs.chain.Values.{installed_spot}
 use Rattle.md_machine.proofs.lists.Options.{some_same}
 use Rattle.md_rule.specs.Steps.{EventOf, SteppedFrom}
