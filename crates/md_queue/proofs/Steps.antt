@@ -241,7 +241,7 @@ module _ (M : Meaning) where
           (λ is. err_apart stop _ is.0 (λ e. let same : limit ≡ Worn word from.count = cc e in worn word from.count same)) t word from kind
           (λ written is by. let e = is.0 in cc e)
           (λ unwritten critical is. conflict_not_by limit stop _ is.1.1)
-          (λ unwritten plain is. conflict_not_by limit stop _ is.1.1)
+          (λ unwritten plain is. conflict_not_by limit stop _ is.0.1.1)
 
       pub exchange_not_by : (word : ℕ) (from : Seen) (to : ℕ) (kind : Kind) (stop : Stop)
           → AfterStop t.stop t u (let r : Result Seen Stop = Err stop in r) (Exchanges (exchange_case t word from kind) M t u word from to (Err stop)) → IsNotBy t limit stop

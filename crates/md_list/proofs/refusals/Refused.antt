@@ -83,7 +83,7 @@ module _ (M : Meaning) (t u : TxnState) (s : Stop) where
       (λ is by. worn_reads _ _ (err_same Seen s _ is.0) by) t word from kind
       (λ written is. err_ok Seen s _ is.0)
       (λ unwritten critical is by. no_conflict Seen s _ Reads by is.1.1)
-      (λ unwritten plain is by. no_conflict Seen s _ Reads by is.1.1)
+      (λ unwritten plain is by. no_conflict Seen s _ Reads by is.0.1.1)
     where
       writes_reads : s ≡ Limited Writes → s ≡ Limited Reads → ⊥
       writes_reads a b = cc (a, b)
@@ -97,7 +97,7 @@ module _ (M : Meaning) (t u : TxnState) (s : Stop) where
 
     plain_count : (b : Bool) → Exchanges (if b then worn else changes) M t u word from to (Err s) → ⊥
     plain_count true is = worn_writes _ (err_same Seen s _ is.0)
-    plain_count false is = no_conflict Seen s _ Writes by is.1.1
+    plain_count false is = no_conflict Seen s _ Writes by is.0.1.1
 
     by_count : (critical : Bool) (slots count : ℕ) → Exchanges (case_by_count critical slots count) M t u word from to (Err s) → critical ≡ true
     by_count true slots count is = refl

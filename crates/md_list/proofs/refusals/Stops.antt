@@ -83,7 +83,7 @@ module _ (M : Meaning) (t u : TxnState) (s : Stop) where
       (λ held is. no_conflict s _ (refuses _ is)) (λ is. no_writes s (refuses _ is)) (λ is. no_worn s _ _ (refuses _ is)) t word from kind
       (λ written is. absurd (err_ok Seen s s _ is.0))
       (λ unwritten critical is. no_conflict s _ is.1.1)
-      (λ unwritten plain is. no_conflict s _ is.1.1)
+      (λ unwritten plain is. no_conflict s _ is.0.1.1)
 
 -- a call's refusal, if no stop stood before
 module _ (A : Type 0) (t u : TxnState) where
