@@ -93,15 +93,16 @@ pub fn find<'a, T: HasLists>(tx: &mut Txn<'a, T>, head: u32, key: u64) -> Result
             } else {
                 Kind::Plain
             };
-            let seen = tx.exchange(prev, at, next.value - 1, kind)?;
-            if seen.value != next.value - 1 {
-                lost += 1;
-                // From a node that was removed meanwhile the walk can't go on.
-                if lost == MOST_LOST || seen.value % 2 == 1 {
-                    return Err(tx.give_up(prev, at, seen));
-                }
+            let was = at;
+            at = tx.exchange(prev, was, next.value - 1, kind)?;
+            if at.value == next.value - 1 {
+                continue;
             }
-            at = seen;
+            // Another pass changed the word. If it removed the node before, the walk can't go on.
+            lost += 1;
+            if lost == MOST_LOST || at.value % 2 == 1 {
+                return Err(tx.give_up(prev, was, at));
+            }
             continue;
         }
         let key_word = tx.shape().node_key(node);

@@ -82,15 +82,17 @@ fn find_last<'a, T: HasQueues>(tx: &mut Txn<'a, T>, queue: u32) -> Result<End, S
         if end.next.value == 0 {
             break;
         }
-        let after = follow(tx, queue, end)?;
-        if after.tail.value != end.next.value {
-            lost += 1;
-            if lost == MOST_LOST {
-                let tail_word = tx.shape().queue_tail(queue);
-                return Err(tx.give_up(tail_word, end.tail, after.tail));
-            }
+        let was = end;
+        end = follow(tx, queue, was)?;
+        if end.tail.value == was.next.value {
+            continue;
         }
-        end = after;
+        // Another pass changed the tail.
+        lost += 1;
+        if lost == MOST_LOST {
+            let tail_word = tx.shape().queue_tail(queue);
+            return Err(tx.give_up(tail_word, was.tail, end.tail));
+        }
     }
     Ok(end)
 }

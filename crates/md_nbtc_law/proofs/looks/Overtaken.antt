@@ -1,22 +1,23 @@
 -- A look at a word that was overtaken: what it gives has moved from what own steps left there first.
-use Rattle.std.proofs.Common.{◌≡◌, ◌≢◌, ◌++◌, ◌∷◌, ◌≤◌, ◌<◌, ◌+◌, ℕ, true, false, List, [], drop, length, refl, sym, ap, ◌∙◌, subst, inl, ⊎_elim, arith}
+use Rattle.std.proofs.Common.{◌≡◌, ◌≢◌, ◌++◌, ◌∷◌, ◌≤◌, ◌<◌, ◌+◌, ℕ, true, false, List, [], Result, Ok, Err, IfOk, drop, length, refl, sym, ap, ◌∙◌, subst, inl, inr, ⊎_elim, arith}
 use Rattle.std.proofs.lemmas.Bool.{cases_lt}
-use Rattle.std.proofs.lemmas.List.Elements.{All-weaker, Contains-append_left, Contains-push}
+use Rattle.std.proofs.lemmas.List.Elements.{All-weaker, Contains-append_left, Contains-append_right, Contains-push}
 use Rattle.std.specs.List.{All, Contains}
 use Rattle.md_words.specs.declared.shape.Shape.{Shape}
 use Rattle.md_words.specs.Content.{count_of, is_even}
 use Rattle.md_words.specs.PlaceAt.{IsCounted}
 use Rattle.md_history.specs.declared.stops.Shown.{Shown}
+use Rattle.md_history.specs.declared.stops.Stop.{Stop}
 use Rattle.md_history.specs.declared.stops.Stop.TheVariants.{Conflict}
 use Rattle.md_machine.specs.declared.pass.PassView.{PassView}
 use Rattle.md_machine.specs.declared.step.Step.{Step}
 use Rattle.md_machine.specs.Certified.{is_written}
-use Rattle.md_machine.specs.Event.{EventOf}
+use Rattle.md_machine.specs.Machine.{shape_of}
 use Rattle.md_machine.specs.Meaning.{Lawful, Meaning}
 use Rattle.md_machine.specs.Moved.{Concerns, Moved}
 use Rattle.md_machine.specs.Trail.{Meets, SomeStep}
 use Rattle.md_machine.specs.clauses.words.Stamps.{NotedByTrail}
-use Rattle.md_rule.specs.Steps.{SteppedFrom}
+use Rattle.md_rule.specs.Steps.{EventOf, SteppedFrom}
 use Rattle.md_rule.specs.Views.{FieldView, Origin, PassState}
 use Rattle.md_rule.proofs.Moves.{is_kept}
 use Rattle.md_help.specs.After.{StandsInField}
@@ -24,15 +25,17 @@ use Rattle.md_help.specs.Clears.{Clears}
 use Rattle.md_help.specs.declared.clearing.Cleared.{Cleared}
 use Rattle.md_nbtc_law.specs.declared.seen.TheConstants.{LOOKS}
 use Rattle.md_nbtc_law.specs.declared.seen.Seen.{Seen}
-use Rattle.md_nbtc_law.specs.Calls.{IsOvertaken}
+use Rattle.md_nbtc_law.specs.Calls.{ChangedOrLost, IsOvertaken, Looked}
 use Rattle.md_nbtc_law.specs.Going.{HasCause, IsUnderWay}
 use Rattle.md_nbtc_law.specs.Known.{IsLater}
 use Rattle.md_nbtc_law.specs.Looking.{LooksAt, LooksUntil, WasOvertaken}
 use Rattle.md_nbtc_law.specs.Prepared.{IsPrepared, LeftThere}
+use Rattle.md_nbtc_law.specs.Seeing.{Gave}
 use Rattle.md_nbtc_law.specs.State.{TxnState, attempt_in, own_steps, seen_content, shape_in, writes_in}
 use Rattle.md_nbtc_law.proofs.keeping.Causes.{conflict_cause}
 use Rattle.md_nbtc_law.proofs.looks.Awaited.{cleared, going, looked, waits}
-use Rattle.md_nbtc_law.proofs.looks.Causes.{made, moved_so}
+use Rattle.md_machine.proofs.lists.Rising.{here}
+use Rattle.md_nbtc_law.proofs.looks.Causes.{made, moved_so, own_rest}
 use Rattle.md_nbtc_law.proofs.looks.ClearedLooks.{left_overtaken}
 use Rattle.md_nbtc_law.proofs.preparing.GoingOn.{concerns_more, moved_more, own_grows}
 use Rattle.md_nbtc_law.proofs.preparing.Quiet.{left_same}
@@ -57,13 +60,33 @@ module _ (t u : TxnState) (prepared : IsPrepared t) (later : IsLater t u) (word 
       (moved_more (shape_in t) (attempt_in t) (own_steps t) later.steps.rest shown (o.moved shown refl)))))
       (λ all. o.others shown refl (λ lane below. subst (λ l. Contains l lane) later.lanes (all lane (subst (λ (s : Shape). lane < s.lanes) (sym shape) below))))
 
+-- what own steps left in a word is in the trail
+pub left_met : (t : TxnState) → IsPrepared t → (word was : ℕ) → LeftThere (attempt_in t).desc word was (own_steps t) → SomeStep (Meets word was) t.pass.view.trail
+left_met t prepared word was l =
+    let own : Contains (own_steps t) l.step = subst (λ x. Contains x l.step) (sym l.order) (Contains-append_right l.earlier (l.step ∷ l.later) l.step (here l.step l.later)) in (
+      l.step,
+      subst (λ x. Contains x l.step) (sym (own_rest t.began.view.trail t.pass.view.trail prepared.has.since)) (Contains-append_right t.began.view.trail (own_steps t) l.step own),
+      inr l.leaves,
+    )
+
+-- so a look after a lost change gives what others changed the word to
+pub looked_after : (M : Meaning) (v u : TxnState) (word : ℕ) (from : Seen) (to : ℕ) (result : Result Seen Stop)
+    → IfOk result (λ seen. (was : ℕ) → WasOvertaken v word was → HasCause u (Conflict (record { word = word; was = was; now = seen_content seen })))
+    → WasOvertaken v word (seen_content from) → IfOk result (ChangedOrLost u word from to)
+looked_after M v u word from to (Ok seen) causes o = inr (causes (seen_content from) o)
+looked_after M v u word from to (Err s) causes o = tt
+
+pub looked_gave : (M : Meaning) (v u : TxnState) (word : ℕ) (result : Result Seen Stop) → Looked M v u word result → IfOk result (λ seen. Gave u word seen)
+looked_gave M v u word (Ok seen) l = l.1.gave
+looked_gave M v u word (Err s) l = tt
+
 -- a step finds no lower count in a word than an earlier one met there
 module _ (M : Meaning) (o : Origin) (event : EventOf) (word found : ℕ) (p q : PassView) (step : SteppedFrom M o event word found p q) (counted : IsCounted o.shape word)
     (held : ℕ) (met : SomeStep (Meets word held) p.trail) where
   noted : NotedByTrail step.0.machine word held
   noted = (step.0.pass, p, step.0.acts.at, (p.trail, Contains-push p.past p.trail, met))
 
-  counted_there : IsCounted step.0.machine.words.shape word
+  counted_there : IsCounted (shape_of step.0.machine) word
   counted_there = subst (λ s. IsCounted s word) (sym step.0.admitted.shape) counted
 
   pub finds_later : count_of held ≤ count_of found
@@ -73,8 +96,10 @@ module _ (M : Meaning) (o : Origin) (event : EventOf) (word found : ℕ) (p q : 
   pub finds_higher : found ≢ held → count_of held < count_of found
   finds_higher differ = ⊎_elim
       (λ less. less)
-      (λ most. absurd (differ (sym step.1 ∙ sym ((is_kept M o step.0.machine step.0.admitted).stamps.now word held counted_there (inl noted)
-      (let bound = finds_later in omega (arith, bound, most) ∙ ap count_of (sym step.1))))))
+      (λ most.
+      let bound = finds_later in
+      let same : count_of held ≡ count_of found = omega (arith, bound, most) in
+      absurd (differ (sym step.1 ∙ sym ((is_kept M o step.0.machine step.0.admitted).stamps.now word held counted_there (inl noted) (same ∙ ap count_of (sym step.1))))))
       (cases_lt (count_of held) (count_of found))
 
 module _ (M : Meaning) (lawful : Lawful M) (t : TxnState) (way : IsUnderWay M t) (q : PassView) (word found : ℕ) (l : LooksUntil M t.field.origin word (LOOKS + 1) found t.pass.view q)
