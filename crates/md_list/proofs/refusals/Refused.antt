@@ -30,6 +30,10 @@ module _ (A : Type 0) (s : Stop) where
   no_conflict : {B : Type 0} (shown : Shown) (limit : Limit) → s ≡ Limited limit → s ≡ Conflict shown → B
   no_conflict shown limit is other = absurd (cc (is, other))
 
+-- a conflict isn't one by a limit
+pub conflict_unlimited : {B : Type 0} (A : Type 0) (s : Stop) (shown : Shown) → s ≡ Conflict shown → (limit : Limit) → (let e : Result A Stop = Err s in e) ≡ Err (Limited limit) → B
+conflict_unlimited A s shown is limit same = no_conflict A s shown limit (err_same A s (Limited limit) same) is
+
 -- an answer is no refusal
 pub no_refusal : {B : Type 0} (A : Type 0) (x : A) (s : Stop) → (let r : Result A Stop = Ok x in r) ≡ Err s → B
 no_refusal A x s e = absurd (cc e)
