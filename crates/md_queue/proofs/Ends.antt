@@ -1,6 +1,6 @@
 -- The tail, and the next word of its node: what is seen there, and after the tail was moved.
-use Rattle.std.proofs.Common.{◌≡◌, ◌≢◌, ◌==◌, ◌<◌, ◌≤◌, ◌+◌, ◌^◌, ℕ, true, false, List, [], ◌∷◌, length, refl, sym, ap, ◌∙◌, subst, if◌then◌else◌, arith, ⊎_elim, eqb-true}
-use Rattle.std.proofs.lemmas.Bool.{cases_Bool, cond_both}
+use Rattle.std.proofs.Common.{◌≡◌, ◌≢◌, ◌==◌, ◌<◌, ◌≤◌, ◌+◌, ◌^◌, ℕ, true, false, List, [], ◌∷◌, length, refl, sym, ap, ◌∙◌, subst, if◌then◌else◌, arith, ⊎_elim, eq-eqb, eqb-true}
+use Rattle.std.proofs.lemmas.Bool.{cases_Bool, cond-true, cond_both}
 use Rattle.std.proofs.lemmas.List.{length-append, length-map}
 use Rattle.md_words.specs.declared.shape.Shape.{Shape}
 use Rattle.md_words.specs.Layout.{address, node_count}
@@ -111,6 +111,10 @@ module _ (M : Meaning) (lawful : Lawful M) (queues : HasQueuesOf M) (t : TxnStat
       let low = both.2.0 in
       let high = both.2.1 in
       omega (arith, low, high)
+
+-- after a move that was made the least rank is one more
+pub rank_made : (next tail : Seen) (least : ℕ) → tail.value ≡ next.value → rank_after next tail least ≡ least + 1
+rank_made next tail least same = cond-true (tail.value == next.value) (least + 1) 0 (eq-eqb tail.value next.value same)
 
 -- how many words an exchange wrote more
 module _ (M : Meaning) (t u : TxnState) (word : ℕ) (from : Seen) (to : ℕ) (kind : Kind) (seen : Seen) where

@@ -107,6 +107,10 @@ module _ (M : Meaning) where
       no_nodes = others;
     }
 
+    -- a transaction that was given up has the conflict
+    pub given_up : (stop : Stop) (shown : Shown) → stop ≡ Conflict shown → u ≡ record t { stop = Some stop } → t.hand.operating ≡ true → RefusedOtherwise M t u 0 0 stop
+    given_up stop shown is kept = halted stop (kept ∙ ap (λ p. record t { pass = p; stop = Some stop }) (sym (ap (λ (x : TxnState). x.pass) kept))) (λ by. cc (is, by))
+
     -- a refusal that isn't one by a limit, unless it is an old one
     module _ (A : Type 0) (stop : Stop) where
       err_same : (r : Stop) → (let e : Result A Stop = Err stop in e) ≡ Err r → r ≡ stop
@@ -297,3 +301,7 @@ goes_up M t u a b c x y z is reads writes nodes =
       };
       same_stop = is.same_stop;
     }
+
+-- a conflict isn't one by a limit
+pub conflict_limit : {B : Type 0} (stop : Stop) (shown : Shown) (limit : Limit) → stop ≡ Conflict shown → stop ≡ Limited limit → B
+conflict_limit stop shown limit is by = cc (is, by)
