@@ -61,7 +61,7 @@ module _ (M : Meaning) where
     abbrev list : Structure
     list = Bucket r.walking.map r.walking.bucket
 
-    next_word_on : IsNextWord t cs list base prev → IsNextWord u cs list base prev
+    pub next_word_on : IsNextWord t cs list base prev → IsNextWord u cs list base prev
     next_word_on n = record {
       node = n.node;
       earlier = n.earlier;

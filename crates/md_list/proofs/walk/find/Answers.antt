@@ -171,7 +171,7 @@ loop-preserved-then-next-eq1 g c =
     let turns = i.turns in
     let most = few_visited M t c.args.head c.args.key i.visited c.loop.prev c.loop.at (i.stands c.requires.walking).0 in
     let few = i.few in
-    let left = c.if-lost-MOST_LOST.false in
+    let left = c.if-lost-eq-MOST_LOST.false in
     record {
       pass = c.in_ok-at-2.ensures.pass ∙ c.load-in-loop.ensures.pass ∙ i.pass;
       walked = walked_exchange M s u v (walked_same M s t u i.walked c.in_ok-next.ensures.on is.0) c.in_ok-at-2.ensures.on c.loop.prev c.loop.at to c.if-next.kind seen ex;
@@ -204,11 +204,11 @@ give_up-requires-clause-overtaken g c =
     let ex = exchanged_ok M u v c.loop.prev c.loop.at to c.if-next.kind c.in_ok-at-2.at c.in_ok-at-2.ensures.exchanged in
     (lost_so M u c.loop.prev c.loop.at to c.if-next.kind v c.in_ok-at-2.at c.if-at-next.false ex).1
 
-pub returns-then-lost-MOST_LOST-clause-pass : goal.returns-then-lost-MOST_LOST-clause-pass
-returns-then-lost-MOST_LOST-clause-pass g c = c.give_up.ensures.pass ∙ c.in_ok-at-2.ensures.pass ∙ c.load-in-loop.ensures.pass ∙ c.loop.invariant.pass
+pub returns-then-lost-eq-MOST_LOST-clause-pass : goal.returns-then-lost-eq-MOST_LOST-clause-pass
+returns-then-lost-eq-MOST_LOST-clause-pass g c = c.give_up.ensures.pass ∙ c.in_ok-at-2.ensures.pass ∙ c.load-in-loop.ensures.pass ∙ c.loop.invariant.pass
 
-pub returns-then-lost-MOST_LOST-clause-leaves : goal.returns-then-lost-MOST_LOST-clause-leaves
-returns-then-lost-MOST_LOST-clause-leaves g c =
+pub returns-then-lost-eq-MOST_LOST-clause-leaves : goal.returns-then-lost-eq-MOST_LOST-clause-leaves
+returns-then-lost-eq-MOST_LOST-clause-leaves g c =
     let M = g.T.Theory.meaning in
     let s = state c.args.tx.now in
     let t = state c.loop.tx in
@@ -225,18 +225,18 @@ returns-then-lost-MOST_LOST-clause-leaves g c =
     (few_after s t v 0 (ap (λ y. y.slots) e.state_is ∙ ap (λ y. y.slots) is.0) (few_written M s c.args.head t i.visited i.charges)))
     c.give_up.ensures.on (given_up v x c.give_up.result c.give_up.ensures.kept)
 
-pub returns-then-lost-MOST_LOST-clause-found : goal.returns-then-lost-MOST_LOST-clause-found
-returns-then-lost-MOST_LOST-clause-found g c = tt
+pub returns-then-lost-eq-MOST_LOST-clause-found : goal.returns-then-lost-eq-MOST_LOST-clause-found
+returns-then-lost-eq-MOST_LOST-clause-found g c = tt
 
-pub returns-then-lost-MOST_LOST-clause-stops : goal.returns-then-lost-MOST_LOST-clause-stops
-returns-then-lost-MOST_LOST-clause-stops g c = none_stood Found (state c.args.tx.now) (state c.give_up.new.self) _ _ c.loop.invariant.unstopped
+pub returns-then-lost-eq-MOST_LOST-clause-stops : goal.returns-then-lost-eq-MOST_LOST-clause-stops
+returns-then-lost-eq-MOST_LOST-clause-stops g c = none_stood Found (state c.args.tx.now) (state c.give_up.new.self) _ _ c.loop.invariant.unstopped
     (ap (λ x. x.stop) c.give_up.ensures.kept, no_conflict c.give_up.result _ c.give_up.ensures.stop)
 
-pub returns-then-lost-MOST_LOST-clause-no_read : goal.returns-then-lost-MOST_LOST-clause-no_read
-returns-then-lost-MOST_LOST-clause-no_read g c none is = conflict_unlimited Found c.give_up.result _ c.give_up.ensures.stop Reads is
+pub returns-then-lost-eq-MOST_LOST-clause-no_read : goal.returns-then-lost-eq-MOST_LOST-clause-no_read
+returns-then-lost-eq-MOST_LOST-clause-no_read g c none is = conflict_unlimited Found c.give_up.result _ c.give_up.ensures.stop Reads is
 
-pub returns-then-lost-MOST_LOST-clause-no_slot : goal.returns-then-lost-MOST_LOST-clause-no_slot
-returns-then-lost-MOST_LOST-clause-no_slot g c none is = conflict_unlimited Found c.give_up.result _ c.give_up.ensures.stop Writes is
+pub returns-then-lost-eq-MOST_LOST-clause-no_slot : goal.returns-then-lost-eq-MOST_LOST-clause-no_slot
+returns-then-lost-eq-MOST_LOST-clause-no_slot g c none is = conflict_unlimited Found c.give_up.result _ c.give_up.ensures.stop Writes is
 
 pub node_key-key_word-requires : goal.node_key-key_word-requires
 node_key-key_word-requires g c =

@@ -71,7 +71,7 @@ loop-preserved g c =
     let limit = node_limit (shape_in t) in
     let turns = i.turns in
     let few = i.few in
-    let left = c.if-lost-MOST_LOST.false in
+    let left = c.if-lost-eq-MOST_LOST.false in
     record {
       pass = e.pass ∙ i.pass;
       goes = goes_moved M s t u (own_count c.loop.end.tail) (other_count c.loop.end.tail) (own_count c.in_ok-end-2.end.tail) i.goes e.follows.goes e.follows.counts;
@@ -92,14 +92,14 @@ give_up-requires-clause-overtaken g c =
     subst (λ w. IsOvertaken u w c.loop.end.tail c.in_ok-end-2.end.tail) (sym (c.queue_tail-tail_word.ensures.place ∙ ap (λ s. address s (queue_tail c.args.queue)) c.shape.ensures))
     (c.in_ok-end-2.ensures.follows.lost c.if-end-next.false)
 
-pub returns-then-lost-MOST_LOST-clause-pass : goal.returns-then-lost-MOST_LOST-clause-pass
-returns-then-lost-MOST_LOST-clause-pass g c = c.give_up.ensures.pass ∙ c.in_ok-end-2.ensures.pass ∙ c.loop.invariant.pass
+pub returns-then-lost-eq-MOST_LOST-clause-pass : goal.returns-then-lost-eq-MOST_LOST-clause-pass
+returns-then-lost-eq-MOST_LOST-clause-pass g c = c.give_up.ensures.pass ∙ c.in_ok-end-2.ensures.pass ∙ c.loop.invariant.pass
 
-pub returns-then-lost-MOST_LOST-clause-finds : goal.returns-then-lost-MOST_LOST-clause-finds
-returns-then-lost-MOST_LOST-clause-finds g c = tt
+pub returns-then-lost-eq-MOST_LOST-clause-finds : goal.returns-then-lost-eq-MOST_LOST-clause-finds
+returns-then-lost-eq-MOST_LOST-clause-finds g c = tt
 
-pub returns-then-lost-MOST_LOST-clause-stop : goal.returns-then-lost-MOST_LOST-clause-stop
-returns-then-lost-MOST_LOST-clause-stop g c =
+pub returns-then-lost-eq-MOST_LOST-clause-stop : goal.returns-then-lost-eq-MOST_LOST-clause-stop
+returns-then-lost-eq-MOST_LOST-clause-stop g c =
     let M = g.T.Theory.meaning in
     let s = state c.args.tx.now in
     let t = state c.loop.tx in
@@ -112,14 +112,14 @@ returns-then-lost-MOST_LOST-clause-stop g c =
     (goes_moved M s t u (own_count c.loop.end.tail) (other_count c.loop.end.tail) (own_count c.in_ok-end-2.end.tail) i.goes e.follows.goes e.follows.counts)
     (given_up M u x c.give_up.ensures.on c.give_up.result _ c.give_up.ensures.stop c.give_up.ensures.kept) (omega arith) (omega (arith, one))
 
-pub returns-then-lost-MOST_LOST-clause-writes : goal.returns-then-lost-MOST_LOST-clause-writes
-returns-then-lost-MOST_LOST-clause-writes g c by = conflict_limit c.give_up.result _ Writes c.give_up.ensures.stop by
+pub returns-then-lost-eq-MOST_LOST-clause-writes : goal.returns-then-lost-eq-MOST_LOST-clause-writes
+returns-then-lost-eq-MOST_LOST-clause-writes g c by = conflict_limit c.give_up.result _ Writes c.give_up.ensures.stop by
 
-pub returns-then-lost-MOST_LOST-clause-no_reads : goal.returns-then-lost-MOST_LOST-clause-no_reads
-returns-then-lost-MOST_LOST-clause-no_reads g c by = conflict_limit c.give_up.result _ Reads c.give_up.ensures.stop by
+pub returns-then-lost-eq-MOST_LOST-clause-no_reads : goal.returns-then-lost-eq-MOST_LOST-clause-no_reads
+returns-then-lost-eq-MOST_LOST-clause-no_reads g c by = conflict_limit c.give_up.result _ Reads c.give_up.ensures.stop by
 
-pub returns-then-lost-MOST_LOST-clause-stopped : goal.returns-then-lost-MOST_LOST-clause-stopped
-returns-then-lost-MOST_LOST-clause-stopped g c s is = unstopped (state c.args.tx.now) (state c.load_end.new.tx) c.in_ok-end.end c.in_ok-end.ensures.stopped s is
+pub returns-then-lost-eq-MOST_LOST-clause-stopped : goal.returns-then-lost-eq-MOST_LOST-clause-stopped
+returns-then-lost-eq-MOST_LOST-clause-stopped g c s is = unstopped (state c.args.tx.now) (state c.load_end.new.tx) c.in_ok-end.end c.in_ok-end.ensures.stopped s is
 
 pub returns-then-end-eq0-clause-finds : goal.returns-then-end-eq0-clause-finds
 returns-then-end-eq0-clause-finds g c =
