@@ -41,8 +41,8 @@ returns-in_err-end-2-clause-stop g c =
     let refused : RefusedOtherwise M s u 0 1 stop = refused_then M s t u 0 (own_count tail) 0 (other_count tail) 0 1 stop c.loop.invariant.goes (λ _. c.in_err-end-2.ensures.stop) (omega arith) (omega (arith, one)) in
     if_err c.from_residual-in_err-end-2.result stop _ c.from_residual-in_err-end-2.ensures.1 refused
 
-pub loop-preserved-then-end-next : goal.loop-preserved-then-end-next
-loop-preserved-then-end-next g c =
+pub loop-preserved-then-end-was : goal.loop-preserved-then-end-was
+loop-preserved-then-end-was g c =
     let M = g.T.Theory.meaning in
     let s = state c.args.tx.now in
     let t = state c.loop.tx in
@@ -55,7 +55,7 @@ loop-preserved-then-end-next g c =
       least = rank_after c.loop.end.next c.in_ok-end-2.end.tail i.least;
       sees = λ cs going. e.follows.sees cs i.least (i.sees cs going);
       few = i.few;
-      turns = let made = rank_made c.loop.end.next c.in_ok-end-2.end.tail i.least c.if-end-next.true in let turns = i.turns in omega (arith, made, turns);
+      turns = let made = rank_made c.loop.end.next c.in_ok-end-2.end.tail i.least c.if-end-was.true in let turns = i.turns in omega (arith, made, turns);
     }
 
 pub loop-preserved : goal.loop-preserved
@@ -90,7 +90,7 @@ pub give_up-requires-clause-overtaken : goal.give_up-requires-clause-overtaken
 give_up-requires-clause-overtaken g c =
     let u = state c.follow.new.tx in
     subst (λ w. IsOvertaken u w c.loop.end.tail c.in_ok-end-2.end.tail) (sym (c.queue_tail-tail_word.ensures.place ∙ ap (λ s. address s (queue_tail c.args.queue)) c.shape.ensures))
-    (c.in_ok-end-2.ensures.follows.lost c.if-end-next.false)
+    (c.in_ok-end-2.ensures.follows.lost c.if-end-was.false)
 
 pub returns-then-lost-eq-MOST_LOST-clause-pass : goal.returns-then-lost-eq-MOST_LOST-clause-pass
 returns-then-lost-eq-MOST_LOST-clause-pass g c = c.give_up.ensures.pass ∙ c.in_ok-end-2.ensures.pass ∙ c.loop.invariant.pass
