@@ -174,10 +174,6 @@ module _ (o : Origin) (desc : ℕ) where
             tidies = All-nil _;
             changes = ap (λ n. record { word = cell_word o.shape; old = n; new = value + 1 } ∷ []) (sym none);
             nodes = refl;
-            count = 0;
-            few = omega arith;
-            stored = λ i below. absurd (let no : ⊥ = omega (arith, below) in no);
-            recorded = All-nil _;
           },
           refl,
         ),

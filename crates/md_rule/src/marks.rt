@@ -61,8 +61,8 @@ impl<T: Theory> Pass<T> {
     }
 
     /// Ends the operation that was begun: it has this reply, by some certificate of the theory,
-    /// whose changes and new nodes are those made since, and whose words the transaction recorded
-    /// or changes (`MayAct`). The act is the last one then. One load of word 0. It has no refusal.
+    /// whose changes and new nodes are those made since (`MayAct`). The act is the last one then.
+    /// One load of word 0. It has no refusal.
     pub fn mark_act(&mut self, field: &Field<T>, op: Op, reply: Reply)
         requires field { IsOf self.old field.now }
         requires may { MayAct T.meaning field.now.origin op reply self.old.view }

@@ -1,6 +1,5 @@
 -- The marks: what is in hand changes, by a load of word 0.
-use Rattle.std.specs.Prelude.{◌≡◌, ◌<◌, ◌≤◌, ◌++◌, ◌&&◌, not, ℕ, true, false, List, [], ◌∷◌, map, filter, All, Some, None, if◌then◌else◌}
-use Rattle.md_words.specs.declared.limits.TheConstants.{SET}
+use Rattle.std.specs.Prelude.{◌≡◌, ◌++◌, ◌&&◌, not, ℕ, true, false, List, [], ◌∷◌, map, filter, All, Some, None, if◌then◌else◌}
 use Rattle.md_words.specs.Status.{status_of, serial_of}
 use Rattle.md_words.specs.Place.{desc_status}
 use Rattle.md_words.specs.Layout.{address}
@@ -13,14 +12,13 @@ use Rattle.md_machine.specs.declared.attempt.HistoryEntry.{HistoryEntry}
 use Rattle.md_machine.specs.declared.certificate.Certificate.{Certificate}
 use Rattle.md_machine.specs.declared.step.Kind.TheVariants.{Load}
 use Rattle.md_machine.specs.declared.pass.PassView.{PassView}
-use Rattle.md_machine.specs.Certified.{RecordsFound, whole_changes, whole_nodes}
+use Rattle.md_machine.specs.Certified.{whole_changes, whole_nodes}
 use Rattle.md_machine.specs.Machine.{Machine, content, present, same_attempt, shape_of, was_begun}
 use Rattle.md_machine.specs.Meaning.{Meaning}
 use Rattle.md_machine.specs.Own.{HasDesc}
 use Rattle.md_machine.specs.Resolution.{is_committed}
 use Rattle.md_machine.specs.Stepping.{replaced, stepped}
 use Rattle.md_machine.specs.Trail.{Meets, SomeStepOf}
-use Rattle.md_machine.specs.events.Ready.{IsStoredRead, reads_now, writes_now}
 use Rattle.md_machine.specs.events.Uninstall.{IsDecided}
 
 -- the pass after a mark, which is a load of word 0, and the machine with such a pass
@@ -62,10 +60,10 @@ hand_after_mark_act h c = record h {
 }
 
 module _ (M : Meaning) where
-  -- act: the certificate is one of the theory, its changes and its new nodes are those that were made and stored since
-  -- the operation began, and each word that it records is among the reads that the attempt has stored so far or its
-  -- slots. That the certificates of all acts stand one after another is asked at the ready step alone: it brings
-  -- certificates for these acts, and they need not be those of the marks
+  -- act: the certificate is one of the theory, and its changes and its new nodes are those that were made and stored
+  -- since the operation began. That the words which it records were recorded, and that the certificates of all acts
+  -- stand one after another, is asked at the ready step alone: it brings certificates for these acts, and they need not
+  -- be those of the marks
   pub record MayMarkAct (m : Machine) (p : PassView) (h : Hand) (c : Certificate) : Type 0 where
     pub held : p.hand ≡ Some h
     pub operates : h.operating ≡ true
@@ -73,10 +71,6 @@ module _ (M : Meaning) where
     pub tidies : All (M.tidies (shape_of m)) c.tidy
     pub changes : whole_changes c ≡ h.changes
     pub nodes : map (λ n. n.node) (whole_nodes c) ≡ h.stored
-    pub count : ℕ
-    pub few : count ≤ SET
-    pub stored : (i : ℕ) → i < count → IsStoredRead m p h.attempt i
-    pub recorded : RecordsFound (reads_now m h.attempt.desc count) (writes_now m h.attempt) c
 
 abbrev pub after_mark_act : Machine → (pass : ℕ) → PassView → Hand → Certificate → Machine
 after_mark_act m pass p h c = after_move m pass (record (marked m p) { hand = Some (hand_after_mark_act h c) })

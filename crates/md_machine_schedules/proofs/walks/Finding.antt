@@ -23,7 +23,7 @@ use Rattle.md_machine_schedules.specs.Transactions.{finds, found_node}
 use Rattle.md_machine_schedules.specs.Schedules.{finding, helping_certificates}
 use Rattle.md_machine_schedules.specs.Walk.{after_event, hand_at, view_at}
 use Rattle.md_machine_schedules.proofs.Walking.{Walks, nth, one_below, only_none, only_one, step_at, stored_at}
-use Rattle.md_machine_schedules.proofs.Certifying.{look_up_certified, look_up_found, look_up_in}
+use Rattle.md_machine_schedules.proofs.Certifying.{look_up_certified, look_up_in}
 use Rattle.md_machine_schedules.proofs.walks.Completing.{h23}
 
 abbrev h24 : Machine
@@ -115,13 +115,6 @@ module _ (M : Meaning) (fin : M.certifies small_shape finds) where
       tidies = only_none (M.tidies small_shape);
       changes = refl;
       nodes = refl;
-      count = 1;
-      few = lit≤ tt;
-      stored = one_below (IsStoredRead h28 (view_at h28 1) (attempt_of 1 0)) (record {
-        word = stored_at (view_at h28 1) _ _ _ 12 (0, lit≤ tt, refl) (record { kind = refl; attempt = refl; there = refl }) refl refl;
-        content = stored_at (view_at h28 1) _ _ _ 13 (0, lit≤ tt, refl) (record { kind = refl; attempt = refl; there = refl }) refl refl;
-      });
-      recorded = look_up_found (Value (Some 10)) (found_node ∷ []) (read_now h28 1 0) refl;
     },
     refl,
   )

@@ -1,20 +1,18 @@
 -- Pass 0 finds a key, and records the next word of its node.
-use Rattle.std.proofs.Common.{[], refl, lit≤, true}
+use Rattle.std.proofs.Common.{refl, lit≤}
 use Rattle.md_words.specs.Content.{value_of, count_of, is_even, counted_word, spot_value, spot_of}
 use Rattle.md_words.specs.Status.{status_word, status_of, reads_of, serial_of}
 use Rattle.md_words.specs.Layout.{words_of, node_count, desc_count, address}
 use Rattle.md_words.specs.PlaceAt.{place_at}
 use Rattle.md_words.specs.Lanes.{OwnsNode, OwnsDesc}
-use Rattle.md_machine.specs.Machine.{Machine, attempt_of}
+use Rattle.md_machine.specs.Machine.{Machine}
 use Rattle.md_machine.specs.Meaning.{Meaning}
 use Rattle.md_machine_schedules.specs.Walk.{after_event, hand_at, view_at}
 use Rattle.md_words.specs.Place.{desc_status, node_key, node_value, read_content, read_word}
 use Rattle.md_machine.specs.Event.{Does, load, mark_act, mark_begin, mark_start, opened, split, store}
-use Rattle.md_machine.specs.events.Ready.{IsStoredRead}
 use Rattle.md_machine_schedules.specs.Field.{bucket, place_word, small_shape}
 use Rattle.md_machine_schedules.specs.Unlinking.{finding_first, finds_first, first_next, keyed_opening, unlinking_certificates}
-use Rattle.md_machine_schedules.proofs.Walking.{Walks, one_below, only_none, stored_at}
-use Rattle.md_machine_schedules.proofs.Unlinks.{first_found}
+use Rattle.md_machine_schedules.proofs.Walking.{Walks, only_none}
 
 abbrev pub u0 : Machine
 u0 = opened keyed_opening
@@ -170,13 +168,6 @@ module _ (M : Meaning) (fin : M.certifies small_shape finds_first) where
       tidies = only_none (M.tidies small_shape);
       changes = refl;
       nodes = refl;
-      count = 1;
-      few = lit≤ tt;
-      stored = one_below (IsStoredRead u10 (view_at u10 0) (attempt_of 0 0)) (record {
-        word = stored_at (view_at u10 0) _ _ _ 8 (0, lit≤ tt, refl) (record { kind = refl; attempt = refl; there = refl }) refl refl;
-        content = stored_at (view_at u10 0) _ _ _ 9 (0, lit≤ tt, refl) (record { kind = refl; attempt = refl; there = refl }) refl refl;
-      });
-      recorded = first_found true [];
     },
     refl,
   )

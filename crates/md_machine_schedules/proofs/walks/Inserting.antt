@@ -1,5 +1,5 @@
 -- Pass 0 makes an insert, with which two of the schedules go on.
-use Rattle.std.proofs.Common.{refl, lit≤, arith}
+use Rattle.std.proofs.Common.{refl, lit≤}
 use Rattle.md_words.specs.Content.{value_of, count_of, is_even, counted_word, spot_value, spot_of}
 use Rattle.md_words.specs.Status.{serial_of}
 use Rattle.md_words.specs.Layout.{words_of, node_count, address}
@@ -13,7 +13,6 @@ use Rattle.md_machine_schedules.specs.Field.{bucket, first_slot, link_to, place_
 use Rattle.md_machine_schedules.specs.Transactions.{inserting, inserts}
 use Rattle.md_machine_schedules.specs.Walk.{Certificates, after_event, hand_at, no_certificates, view_at}
 use Rattle.md_machine_schedules.proofs.Walking.{Walks, only_none}
-use Rattle.md_machine_schedules.proofs.Certifying.{insert_found}
 use Rattle.md_machine_schedules.proofs.walks.Beginning.{m5}
 
 abbrev m6 : Machine
@@ -135,10 +134,6 @@ module _ (M : Meaning) (ins : M.certifies small_shape (inserts 2)) where
       tidies = only_none (M.tidies small_shape);
       changes = refl;
       nodes = refl;
-      count = 0;
-      few = lit≤ tt;
-      stored = λ i h. absurd (omega (arith, h));
-      recorded = insert_found 2;
     },
     refl,
   )

@@ -23,7 +23,7 @@ use Rattle.md_machine_schedules.specs.Transactions.{misses}
 use Rattle.md_machine_schedules.specs.Schedules.{missing, stopping_certificates}
 use Rattle.md_machine_schedules.specs.Walk.{after_event, hand_at, view_at}
 use Rattle.md_machine_schedules.proofs.Walking.{Walks, nth, one_below, only_none, only_one, step_at, stored_at}
-use Rattle.md_machine_schedules.proofs.Certifying.{insert_slot, look_up_certified, look_up_found, look_up_in}
+use Rattle.md_machine_schedules.proofs.Certifying.{insert_slot, look_up_certified, look_up_in}
 use Rattle.md_machine_schedules.proofs.walks.Aborting.{s22}
 
 abbrev s23 : Machine
@@ -91,13 +91,6 @@ module _ (M : Meaning) (mis : M.certifies small_shape misses) where
       tidies = only_none (M.tidies small_shape);
       changes = refl;
       nodes = refl;
-      count = 1;
-      few = lit≤ tt;
-      stored = one_below (IsStoredRead s24 (view_at s24 1) (attempt_of 1 0)) (record {
-        word = stored_at (view_at s24 1) _ _ _ 10 (0, lit≤ tt, refl) (record { kind = refl; attempt = refl; there = refl }) refl refl;
-        content = stored_at (view_at s24 1) _ _ _ 11 (0, lit≤ tt, refl) (record { kind = refl; attempt = refl; there = refl }) refl refl;
-      });
-      recorded = look_up_found (Value None) [] (read_now s24 1 0) refl;
     },
     refl,
   )

@@ -1,22 +1,19 @@
 -- Pass 0 notes a get that finds the bucket empty.
-use Rattle.std.proofs.Common.{[], refl, lit≤, None}
+use Rattle.std.proofs.Common.{refl, lit≤}
 use Rattle.md_words.specs.Content.{value_of, count_of, is_even, counted_word, spot_value, spot_of}
 use Rattle.md_words.specs.Status.{serial_of}
 use Rattle.md_words.specs.Layout.{words_of, node_count, address}
 use Rattle.md_words.specs.Place.{read_content, read_word}
 use Rattle.md_words.specs.PlaceAt.{place_at}
 use Rattle.md_words.specs.Lanes.{OwnsNode}
-use Rattle.md_history.specs.declared.acts.Reply.TheVariants.{Value}
 use Rattle.md_machine.specs.Event.{Does, mark_act, store}
-use Rattle.md_machine.specs.Machine.{Machine, attempt_of}
+use Rattle.md_machine.specs.Machine.{Machine}
 use Rattle.md_machine.specs.Meaning.{Meaning}
-use Rattle.md_machine.specs.events.Ready.{IsStoredRead, read_now}
 use Rattle.md_machine_schedules.specs.Field.{bucket, place_word, small_shape}
 use Rattle.md_machine_schedules.specs.Transactions.{misses}
 use Rattle.md_machine_schedules.specs.Schedules.{moving_certificates, noting}
 use Rattle.md_machine_schedules.specs.Walk.{after_event, hand_at, view_at}
-use Rattle.md_machine_schedules.proofs.Walking.{Walks, one_below, only_none, stored_at}
-use Rattle.md_machine_schedules.proofs.Certifying.{look_up_found}
+use Rattle.md_machine_schedules.proofs.Walking.{Walks, only_none}
 use Rattle.md_machine_schedules.proofs.walks.Beginning.{m5}
 
 abbrev r6 : Machine
@@ -63,13 +60,6 @@ module _ (M : Meaning) (mis : M.certifies small_shape misses) where
       tidies = only_none (M.tidies small_shape);
       changes = refl;
       nodes = refl;
-      count = 1;
-      few = lit≤ tt;
-      stored = one_below (IsStoredRead r7 (view_at r7 0) (attempt_of 0 0)) (record {
-        word = stored_at (view_at r7 0) _ _ _ 5 (0, lit≤ tt, refl) (record { kind = refl; attempt = refl; there = refl }) refl refl;
-        content = stored_at (view_at r7 0) _ _ _ 6 (0, lit≤ tt, refl) (record { kind = refl; attempt = refl; there = refl }) refl refl;
-      });
-      recorded = look_up_found (Value None) [] (read_now r7 0 0) refl;
     },
     refl,
   )

@@ -1,5 +1,5 @@
 -- Pass 1 makes an insert, while the get of pass 0 stalls.
-use Rattle.std.proofs.Common.{refl, lit≤, arith}
+use Rattle.std.proofs.Common.{refl, lit≤}
 use Rattle.md_words.specs.Content.{value_of, count_of, is_even, counted_word, spot_value, spot_of}
 use Rattle.md_words.specs.Status.{serial_of}
 use Rattle.md_words.specs.Layout.{words_of, node_count, address}
@@ -14,7 +14,6 @@ use Rattle.md_machine_schedules.specs.Transactions.{inserts}
 use Rattle.md_machine_schedules.specs.Schedules.{moving_certificates, overtaking}
 use Rattle.md_machine_schedules.specs.Walk.{after_event, hand_at, view_at}
 use Rattle.md_machine_schedules.proofs.Walking.{Walks, only_none}
-use Rattle.md_machine_schedules.proofs.Certifying.{insert_found}
 use Rattle.md_machine_schedules.proofs.walks.Noting.{r8}
 
 abbrev r9 : Machine
@@ -163,10 +162,6 @@ module _ (M : Meaning) (ins : M.certifies small_shape (inserts 18)) where
       tidies = only_none (M.tidies small_shape);
       changes = refl;
       nodes = refl;
-      count = 0;
-      few = lit≤ tt;
-      stored = λ i h. absurd (omega (arith, h));
-      recorded = insert_found 18;
     },
     refl,
   )

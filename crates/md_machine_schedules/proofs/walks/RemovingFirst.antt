@@ -18,7 +18,7 @@ use Rattle.md_machine.specs.events.Ready.{InstallsFor, MayRecord}
 use Rattle.md_machine_schedules.specs.Field.{bucket, first_slot, place_word, small_shape, standing}
 use Rattle.md_machine_schedules.specs.Unlinking.{first_next, removes_first, removing_first, unlinking_certificates}
 use Rattle.md_machine_schedules.proofs.Walking.{Walks, nth, only_none, only_one, step_at, stored_at}
-use Rattle.md_machine_schedules.proofs.Unlinks.{remove_certified, remove_found, remove_in, remove_slot}
+use Rattle.md_machine_schedules.proofs.Unlinks.{remove_certified, remove_in, remove_slot}
 use Rattle.md_machine_schedules.proofs.walks.FindingFirst.{u11}
 
 abbrev u12 : Machine
@@ -215,10 +215,6 @@ module _ (M : Meaning) (rem : M.certifies small_shape removes_first) where
       tidies = only_none (M.tidies small_shape);
       changes = refl;
       nodes = refl;
-      count = 0;
-      few = lit≤ tt;
-      stored = λ i h. absurd (omega (arith, h));
-      recorded = remove_found;
     },
     refl,
   )

@@ -5,16 +5,14 @@ use Rattle.md_words.specs.Status.{status_word, status_of, reads_of, serial_of}
 use Rattle.md_words.specs.Layout.{words_of, node_count, desc_count, address}
 use Rattle.md_words.specs.PlaceAt.{place_at}
 use Rattle.md_words.specs.Lanes.{OwnsNode, OwnsDesc}
-use Rattle.md_machine.specs.Machine.{Machine, attempt_of}
+use Rattle.md_machine.specs.Machine.{Machine}
 use Rattle.md_machine.specs.Meaning.{Meaning}
 use Rattle.md_machine_schedules.specs.Walk.{after_event, hand_at, view_at}
 use Rattle.md_words.specs.Place.{slot_new, slot_old, slot_word}
 use Rattle.md_machine.specs.Event.{Does, install, load, mark_act, mark_start, store}
-use Rattle.md_machine.specs.events.Ready.{IsStoredRead}
 use Rattle.md_machine_schedules.specs.Field.{bucket, first_slot, place_word, small_shape}
 use Rattle.md_machine_schedules.specs.Unlinking.{first_link, first_next, misses_second, unlinking_certificates, unlinking_first, unlinks_first}
-use Rattle.md_machine_schedules.proofs.Walking.{Walks, one_below, only_one, stored_at}
-use Rattle.md_machine_schedules.proofs.Unlinks.{second_found}
+use Rattle.md_machine_schedules.proofs.Walking.{Walks, only_one}
 use Rattle.md_machine_schedules.proofs.walks.RemovingFirst.{u27}
 
 abbrev u28 : Machine
@@ -141,13 +139,6 @@ module _ (M : Meaning) (mis : M.certifies small_shape misses_second) (unl : M.ti
       tidies = only_one (M.tidies small_shape) unlinks_first unl;
       changes = refl;
       nodes = refl;
-      count = 1;
-      few = lit≤ tt;
-      stored = one_below (IsStoredRead u34 (view_at u34 0) (attempt_of 0 0)) (record {
-        word = stored_at (view_at u34 0) _ _ _ 8 (0, lit≤ tt, refl) (record { kind = refl; attempt = refl; there = refl }) refl refl;
-        content = stored_at (view_at u34 0) _ _ _ 9 (0, lit≤ tt, refl) (record { kind = refl; attempt = refl; there = refl }) refl refl;
-      });
-      recorded = second_found;
     },
     refl,
   )

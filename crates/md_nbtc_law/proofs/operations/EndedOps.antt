@@ -1,5 +1,5 @@
 -- An operation is ended by a mark.
-use Rattle.std.proofs.Common.{◌≡◌, ◌++◌, ◌∷◌, ℕ, true, false, List, [], map, length, Some, refl, sym, ap, ◌∙◌, subst, is_some}
+use Rattle.std.proofs.Common.{◌≡◌, ◌++◌, ◌∷◌, true, false, List, [], map, Some, refl, sym, ap, ◌∙◌, subst}
 use Rattle.std.proofs.lemmas.List.{map-append}
 use Rattle.std.proofs.lemmas.List.Elements.{Contains-append_left}
 use Rattle.std.specs.List.{All, Contains}
@@ -13,14 +13,13 @@ use Rattle.md_machine.specs.declared.certificate.NewNode.{NewNode}
 use Rattle.md_machine.specs.declared.node.PlacedNode.{PlacedNode}
 use Rattle.md_machine.specs.declared.pass.PassView.{PassView}
 use Rattle.md_machine.specs.Certified.{all_nodes, placed_by, whole_nodes}
-use Rattle.md_machine.specs.Event.{Acts, mark_act}
+use Rattle.md_machine.specs.Event.{mark_act}
 use Rattle.md_machine.specs.Machine.{Machine}
 use Rattle.md_machine.specs.Meaning.{Meaning}
 use Rattle.md_machine.specs.events.Mark.{MayMarkAct, after_mark_act, hand_after_mark_act, marked}
 use Rattle.md_machine.proofs.lists.Options.{some_same}
 use Rattle.md_rule.specs.Admitted.{Admitted}
 use Rattle.md_rule.specs.Steps.{Acted, IsOf as IsOfAct, MayAct}
-use Rattle.md_rule.proofs.Moves.{is_kept}
 use Rattle.md_rule.proofs.Told.{told_act}
 use Rattle.md_nbtc_law.specs.Calls.{EndsOperation, MayAnswer, with_act}
 use Rattle.md_nbtc_law.specs.Course.{MayEnd}
@@ -30,7 +29,6 @@ use Rattle.md_nbtc_law.proofs.operations.Courses.{nodes_push}
 use Rattle.md_nbtc_law.proofs.operations.EndedCourse.{ended_course}
 use Rattle.md_nbtc_law.proofs.operations.OnMark.{after_mark, mark_going, mark_later}
 use Rattle.md_nbtc_law.proofs.operations.Turned.{turned_hand}
-use Rattle.md_nbtc_law.proofs.ready.Bridge.{reads_stored, same_first}
 
 abbrev as_placed : NewNode → PlacedNode
 as_placed n = record { node = n.node; structure = n.structure }
@@ -46,23 +44,15 @@ hand_of h c op reply of = ap (λ o. with_act h o c.reply) of.0 ∙ ap (with_act 
 
 module _ (M : Meaning) (t : TxnState) (prepared : IsPrepared t) (operates : t.hand.operating ≡ true) (op : Op) (reply : Reply) where
   -- the condition of the mark holds in each machine in which the pass stands so
-  may_mark : (cs : List Certificate) (c : Certificate) → MayEnd M t cs c → (m : Machine) → Admitted M t.field.origin m → (pass : ℕ) → Acts m pass t.pass.view
-      → MayMarkAct M m t.pass.view t.hand c
-  may_mark cs c may m admitted pass acts =
-      let has = prepared.has in
-      let k = is_kept M t.field.origin m admitted in
-      record {
-        held = has.held;
-        operates = operates;
-        certifies = subst (λ s. M.certifies s c) (sym admitted.shape) may.certifies;
-        tidies = subst (λ s. All (M.tidies s) c.tidy) (sym admitted.shape) may.tidies;
-        changes = may.changes;
-        nodes = may.order;
-        count = length t.reads;
-        few = has.few_reads;
-        stored = reads_stored t has m k admitted.shape pass acts.at;
-        recorded = λ i d below. ap (λ o. is_some o) (same_first t has m k admitted.shape pass acts.at _) ∙ may.recorded i d below;
-      }
+  may_mark : (cs : List Certificate) (c : Certificate) → MayEnd M t cs c → (m : Machine) → Admitted M t.field.origin m → MayMarkAct M m t.pass.view t.hand c
+  may_mark cs c may m admitted = record {
+    held = prepared.has.held;
+    operates = operates;
+    certifies = subst (λ s. M.certifies s c) (sym admitted.shape) may.certifies;
+    tidies = subst (λ s. All (M.tidies s) c.tidy) (sym admitted.shape) may.tidies;
+    changes = may.changes;
+    nodes = may.order;
+  }
 
   -- so the mark may be made
   pub may_end_op : MayAnswer M t op reply → MayAct M t.field.origin op reply t.pass.view
@@ -71,7 +61,7 @@ module _ (M : Meaning) (t : TxnState) (prepared : IsPrepared t) (operates : t.ha
     a.of,
     λ m admitted pass acts. (
       after_mark_act m pass t.pass.view t.hand a.certificate,
-      (t.pass.view, t.hand, acts, may_mark a.earlier a.certificate a.may m admitted pass acts, refl),
+      (t.pass.view, t.hand, acts, may_mark a.earlier a.certificate a.may m admitted, refl),
     ),
   )
 
