@@ -202,7 +202,7 @@ shown_aborted t = record {
 
 -- the word moved in the pass's steps since the transaction began, and another pass is live
 abbrev pub IsShown : TxnState → (q : PassState) → Shown → Type 0
-IsShown t q shown = Moved (shape_in t) (attempt_in t) (own_steps (record t { pass = q })) shown × (¬ HoldsAll (shape_in t) q.view)
+IsShown t q shown = Moved (shape_in t) (attempt_in t) t.reads (own_steps (record t { pass = q })) shown × (¬ HoldsAll (shape_in t) q.view)
 
 -- a read that the pass found moved, which then took the status from ready to aborted by its own step
 pub record MovedRead (t : TxnState) (q : PassState) (shown : Shown) : Type 0 where

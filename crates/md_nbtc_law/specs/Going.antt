@@ -52,7 +52,7 @@ MeetsCount word count s = (held : ℕ) × Meets word held s × (count_of held �
 -- is live. Limits come where as many words are recorded or written as a set has room for, where none of the pass's lanes
 -- has a node left, and where an own step met a worn word; and no other stop comes
 pub record HasCause (t : TxnState) (s : Stop) : Type 0 where
-  pub moved : (shown : Shown) → s ≡ Conflict shown → Moved (shape_in t) (attempt_in t) (own_steps t) shown
+  pub moved : (shown : Shown) → s ≡ Conflict shown → Moved (shape_in t) (attempt_in t) t.reads (own_steps t) shown
   pub others : (shown : Shown) → s ≡ Conflict shown → ¬ HoldsAll (shape_in t) t.pass.view
   pub reads : s ≡ Limited Reads → length t.reads ≡ SET
   pub writes : s ≡ Limited Writes → length t.slots ≡ SET

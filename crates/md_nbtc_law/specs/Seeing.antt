@@ -34,7 +34,7 @@ pub record SeesContent (t : TxnState) (word : ℕ) (seen : Seen) : Type 0 where
   pub even : is_even seen.count ≡ true
   pub left : LeftThere (attempt_in t).desc word (seen_content seen) (own_steps t)
   pub moved : (r : Read) → Contains t.reads r → r.word ≡ word → (r.content ≡ seen_content seen)
-      ⊎ (Moved (shape_in t) (attempt_in t) (own_steps t) (record { word = word; was = r.content; now = seen_content seen })
+      ⊎ (Moved (shape_in t) (attempt_in t) t.reads (own_steps t) (record { word = word; was = r.content; now = seen_content seen })
       × (¬ HoldsAll (shape_in t) t.pass.view))
 
 -- what a look at a counted word, or the last change of it, gave

@@ -6,7 +6,7 @@ use Rattle.std.specs.List.{All, Contains}
 use Rattle.md_words.specs.declared.status.Status.TheVariants.{Aborted as IsAborted, InProg}
 use Rattle.md_words.specs.Content.{count_of}
 use Rattle.md_words.specs.Layout.{address}
-use Rattle.md_words.specs.Place.{desc_status, read_word}
+use Rattle.md_words.specs.Place.{desc_status}
 use Rattle.md_words.specs.Status.{serial_of, status_of, status_word}
 use Rattle.md_words.proofs.Words.{status_word-adds}
 use Rattle.md_history.specs.Front.{IsPrefix}
@@ -18,7 +18,7 @@ use Rattle.md_machine.specs.Certified.{content_replaced}
 use Rattle.md_machine.specs.Meaning.{Meaning}
 use Rattle.md_machine.proofs.chain.Agree.{all_left}
 use Rattle.md_machine.specs.Moved.{Concerns, Moved, TakesOther}
-use Rattle.md_machine.specs.Trail.{SomeStep, StoresFor, holds_desc, is_store}
+use Rattle.md_machine.specs.Trail.{holds_desc, is_store}
 use Rattle.md_machine.specs.declared.step.Kind.TheVariants.{Abort, Commit}
 use Rattle.md_rule.specs.Steps.{EventOf, SteppedFrom}
 use Rattle.md_nbtc_law.proofs.decisions.Decided.{deciding_quiet}
@@ -33,7 +33,7 @@ use Rattle.md_nbtc_law.specs.Deciding.{FoundReadMoved, LooksAtCounted, Validates
 use Rattle.md_nbtc_law.specs.Ending.{IsReady, IsShown, shown_aborted}
 use Rattle.md_nbtc_law.specs.Prepared.{IsRecorded, LeftThere}
 use Rattle.md_nbtc_law.specs.State.{TxnState, attempt_in, own_steps, shape_in, writes_in}
-use Rattle.md_nbtc_law.proofs.decisions.MaySettle.{desc_is, from, from_reads, from_serial, from_status}
+use Rattle.md_nbtc_law.proofs.decisions.MaySettle.{from, from_reads, from_serial, from_status}
 use Rattle.md_nbtc_law.proofs.looks.AloneChain.{ChainsFrom, chained}
 use Rattle.md_nbtc_law.proofs.looks.Causes.{left_finds, own_rest}
 use Rattle.md_nbtc_law.proofs.preparing.GoingOn.{concerns_more, moved_more, own_grows}
@@ -43,7 +43,7 @@ use Rattle.md_nbtc_law.proofs.ready.Lookups.{each_in, replaced_found}
 -- and another pass is live
 module _ (M : Meaning) (t : TxnState) (since : IsPrefix t.began.view.trail t.pass.view.trail) (shown : Shown) (l : LeftThere (attempt_in t).desc shown.word shown.was (own_steps t))
     (between : List Step) (s : Step) (same : All (λ (x : Step). x.before ≡ x.after) between) (there : s.word ≡ shown.word) (found : s.before ≡ shown.now) (left : s.before ≡ s.after)
-    (none : is_store s.kind ≡ false) (differ : shown.was ≢ shown.now) (concerns : Concerns (shape_in t) (attempt_in t) (own_steps t) shown.word) where
+    (none : is_store s.kind ≡ false) (differ : shown.was ≢ shown.now) (concerns : Concerns (shape_in t) (attempt_in t) t.reads (own_steps t) shown.word) where
   abbrev a : AttemptId
   a = attempt_in t
 
@@ -59,7 +59,7 @@ module _ (M : Meaning) (t : TxnState) (since : IsPrefix t.began.view.trail t.pas
   more_left : LeftThere a.desc shown.word shown.was (own_steps t ++ between)
   more_left = record { earlier = l.earlier; step = l.step; later = l.later ++ between; order = order; leaves = l.leaves; unchanged = unchanged }
 
-  pub later_moved : Moved (shape_in t) a (own_steps t ++ (between ++ s ∷ [])) shown
+  pub later_moved : Moved (shape_in t) a t.reads (own_steps t ++ (between ++ s ∷ [])) shown
   later_moved = record {
     earlier = l.earlier;
     first = l.step;
@@ -71,7 +71,7 @@ module _ (M : Meaning) (t : TxnState) (since : IsPrefix t.began.view.trail t.pas
     now = inl (record { there = there; before = found; found = none });
     differ = differ;
     unchanged = unchanged;
-    concerns = concerns_more (shape_in t) a shown.word (own_steps t) (between ++ s ∷ []) concerns;
+    concerns = concerns_more (shape_in t) a t.reads shown.word (own_steps t) (between ++ s ∷ []) concerns;
   }
 
   pub later_others : (q : PassView) → q.trail ≡ t.pass.view.trail ++ (between ++ s ∷ []) → StandsInField M t.field.origin q → ¬ HoldsAll (shape_in t) q
@@ -85,12 +85,12 @@ module _ (M : Meaning) (t : TxnState) (since : IsPrefix t.began.view.trail t.pas
 
 -- what moved up to a view moved up to a later one, whose pass has the same lanes
 pub shows_later : (t : TxnState) → IsPrefix t.began.view.trail t.pass.view.trail → (steps rest : List Step) (r : PassView) (s : PassState) (shown : Shown)
-    → Moved (shape_in t) (attempt_in t) (own_steps t ++ steps) shown → ¬ HoldsAll (shape_in t) r → s.view.trail ≡ (t.pass.view.trail ++ steps) ++ rest → s.view.lanes ≡ r.lanes
+    → Moved (shape_in t) (attempt_in t) t.reads (own_steps t ++ steps) shown → ¬ HoldsAll (shape_in t) r → s.view.trail ≡ (t.pass.view.trail ++ steps) ++ rest → s.view.lanes ≡ r.lanes
     → IsShown t s shown
 shows_later t since steps rest r s shown moved others trail lanes =
     let longer = own_grows t.began.view.trail t.pass.view.trail s.view.trail (steps ++ rest) since (trail ∙ append_assoc t.pass.view.trail steps rest) in (
-      subst (λ l. Moved (shape_in t) (attempt_in t) l shown) (sym (longer ∙ sym (append_assoc (own_steps t) steps rest)))
-          (moved_more (shape_in t) (attempt_in t) (own_steps t ++ steps) rest shown moved),
+      subst (λ l. Moved (shape_in t) (attempt_in t) t.reads l shown) (sym (longer ∙ sym (append_assoc (own_steps t) steps rest)))
+          (moved_more (shape_in t) (attempt_in t) t.reads (own_steps t ++ steps) rest shown moved),
       λ all. others (λ lane below. subst (λ l. Contains l lane) lanes (all lane below)),
     )
 
@@ -130,15 +130,8 @@ module _ (M : Meaning) (t : TxnState) (ready : IsReady M t) (q : PassView) where
     differ : shown.was ≢ shown.now
     differ e = false≢true (sym f.moved ∙ ap (λ x. x || (holds_desc b.desc shown.now && (count_of shown.now == count_of f.read.content + 1))) (eq-eqb shown.now f.read.content (sym e ∙ f.was)))
 
-    concerns : Concerns (shape_in t) b (own_steps t) shown.word
-    concerns =
-        let few = ready.has.few_reads in
-        let below = recorded.2 in
-        inl (
-          recorded.0,
-          (desc_is M t ready, omega (arith, below, few)),
-          subst (λ w. SomeStep (λ s. StoresFor b (address (shape_in t) (read_word b.desc recorded.0)) s × (s.after ≡ w)) (own_steps t)) (sym f.is) recorded.3.shown,
-        )
+    concerns : Concerns (shape_in t) b t.reads (own_steps t) shown.word
+    concerns = inl (f.read, f.among, sym f.is)
 
     pub moved_shows : (e : PassState) (rest : List Step) → e.view.trail ≡ (t.pass.view.trail ++ (f.earlier ++ f.last ∷ [])) ++ rest → e.view.lanes ≡ q.lanes → IsShown t e shown
     moved_shows e rest trail lanes =

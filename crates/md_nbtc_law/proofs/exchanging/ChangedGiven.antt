@@ -31,8 +31,8 @@ module _ (t : TxnState) (prepared : IsPrepared t) (base : PassView) (s : Step) (
       left = subst (LeftThere (attempt_in t).desc word (seen_content seen)) (sym (own_then t base s after changes shares slots prepared))
           (left_same (attempt_in t).desc word (seen_content seen) (own_steps t) (s ∷ []) (one t base s after changes shares slots (λ x. x.word ≡ word → x.before ≡ x.after) same) c.left);
       moved = λ r among there. ⊎_elim inl (λ m. inr (
-        subst (λ l. Moved (shape_in t) (attempt_in t) l (record { word = word; was = r.content; now = seen_content seen })) (sym (own_then t base s after changes shares slots prepared))
-            (moved_more (shape_in t) (attempt_in t) (own_steps t) (s ∷ []) (record { word = word; was = r.content; now = seen_content seen }) m.0),
+        subst (λ l. Moved (shape_in t) (attempt_in t) t.reads l (record { word = word; was = r.content; now = seen_content seen })) (sym (own_then t base s after changes shares slots prepared))
+            (moved_more (shape_in t) (attempt_in t) t.reads (own_steps t) (s ∷ []) (record { word = word; was = r.content; now = seen_content seen }) m.0),
         λ all. m.1 (λ lane below. subst (λ l. Contains l lane) (ap (λ (x : PassView). x.lanes) after.1) (all lane below)),
       )) (c.moved r among there);
     }

@@ -76,6 +76,7 @@ module _ (M : Meaning) (t : TxnState) (prepared : IsPrepared t) (base : PassView
       steps = s ∷ [];
       own = own_then t base s after changes shares slots prepared;
       reads = λ full. full;
+      recorded = λ r c. c;
       slots = full_more few;
       nodes = none_left t.pass u.pass refl (ap (λ (x : PassView). x.lanes) after.1) (λ lane. let same = taken lane in omega (arith, same));
     })

@@ -89,8 +89,8 @@ module _ (M : Meaning) (t : TxnState) (prepared : IsPrepared t) (operates : t.ha
   own_then_is : own_steps stepped ≡ own_steps t ++ s ∷ []
   own_then_is = own_then t it.base it.step it.goes t.hand.changes t.pass.shares t.slots prepared
 
-  moved : Moved (shape_in t) (attempt_in t) (own_steps stepped) shown
-  moved = subst (λ l. Moved (shape_in t) (attempt_in t) l shown) (sym own_then_is) (record {
+  moved : Moved (shape_in t) (attempt_in t) t.reads (own_steps stepped) shown
+  moved = subst (λ l. Moved (shape_in t) (attempt_in t) t.reads l shown) (sym own_then_is) (record {
     earlier = left.earlier;
     first = left.step;
     between = left.later;

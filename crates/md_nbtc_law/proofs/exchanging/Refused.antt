@@ -39,7 +39,7 @@ seen_cause t word held from gave none is differ =
     let now : Shown = record { word = word; was = held; now = seen_content from } in
     ⊎_elim
     (λ same. absurd (differ (sym r.3 ∙ same)))
-    (λ m. conflict_cause t now (subst (λ c. Moved (shape_in t) (attempt_in t) (own_steps t) (record { word = word; was = c; now = seen_content from })) r.3 m.0) m.1)
+    (λ m. conflict_cause t now (subst (λ c. Moved (shape_in t) (attempt_in t) t.reads (own_steps t) (record { word = word; was = c; now = seen_content from })) r.3 m.0) m.1)
     ((gave.content (gave.own ∙ none)).moved r.0 r.1 r.2)
 
 pub halted_gave : (t : TxnState) (stop : Stop) (word : ℕ) (seen : Seen) → Gave t word seen → Gave (record t { stop = Some stop }) word seen

@@ -23,9 +23,9 @@ use Rattle.md_nbtc_law.specs.Seeing.{Gave}
 use Rattle.md_nbtc_law.specs.State.{TxnState, attempt_in, own_steps, seen_content, shape_in, writes_in}
 
 -- a conflict has its cause where its word moved, and another pass is live
-pub conflict_cause : (t : TxnState) (shown : Shown) → Moved (shape_in t) (attempt_in t) (own_steps t) shown → ¬ HoldsAll (shape_in t) t.pass.view → HasCause t (Conflict shown)
+pub conflict_cause : (t : TxnState) (shown : Shown) → Moved (shape_in t) (attempt_in t) t.reads (own_steps t) shown → ¬ HoldsAll (shape_in t) t.pass.view → HasCause t (Conflict shown)
 conflict_cause t shown moved others = record {
-  moved = λ x is. subst (λ y. Moved (shape_in t) (attempt_in t) (own_steps t) y) (same_shown shown x is) moved;
+  moved = λ x is. subst (λ y. Moved (shape_in t) (attempt_in t) t.reads (own_steps t) y) (same_shown shown x is) moved;
   others = λ x is. others;
   reads = λ is. absurd (no_limit Reads is);
   writes = λ is. absurd (no_limit Writes is);

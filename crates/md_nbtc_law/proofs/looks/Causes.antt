@@ -4,9 +4,6 @@ use Rattle.std.proofs.lemmas.Bool.{cases_eq, cases_lt, ne_eqb, true≢false}
 use Rattle.std.proofs.lemmas.List.Elements.{All-append, All-cons, All-contains, All-nil, All-weaker, Contains-append_left, Contains-push}
 use Rattle.std.specs.List.{Contains}
 use Rattle.md_words.specs.Content.{count_of, counted_word, is_even, spot_of, spot_value, value_of}
-use Rattle.md_words.specs.Layout.{address}
-use Rattle.md_words.specs.Place.{read_word}
-use Rattle.md_words.proofs.Owners.{own_desc_exists}
 use Rattle.md_words.proofs.Words.{count_of-counted_word, count_of_below, counted_word-parts}
 use Rattle.md_machine.specs.declared.step.TheConstants.{LAST_COUNT}
 use Rattle.md_history.specs.Front.{IsPrefix}
@@ -20,7 +17,7 @@ use Rattle.md_machine.specs.Certified.{content_replaced, is_written}
 use Rattle.md_machine.specs.Event.{load}
 use Rattle.md_machine.specs.Meaning.{Meaning}
 use Rattle.md_machine.specs.Moved.{Concerns, Moved, TakesOther, holds_other}
-use Rattle.md_machine.specs.Trail.{Finds, SomeStep, StoresFor, is_store}
+use Rattle.md_machine.specs.Trail.{Finds, SomeStep, is_store}
 use Rattle.md_machine.specs.clauses.passes.Alone.{HoldsAll}
 use Rattle.md_machine.specs.events.Install.{installed_word}
 use Rattle.md_rule.specs.Steps.{SteppedFrom}
@@ -151,10 +148,10 @@ module _ (M : Meaning) (t : TxnState) (prepared : IsPrepared t) (q : PassView) (
       ∙ made.found
 
   -- so something else shows that the word moved, and that another pass is live
-  pub moved_so : (was : ℕ) → was ≢ found → LeftThere a.desc word was (own_steps t) → Concerns (shape_in t) a (own_steps t ++ made.step ∷ []) word
-      → Moved (shape_in t) a (own_steps after_load) (record { word = word; was = was; now = found }) × (¬ HoldsAll (shape_in t) q)
+  pub moved_so : (was : ℕ) → was ≢ found → LeftThere a.desc word was (own_steps t) → Concerns (shape_in t) a t.reads (own_steps t ++ made.step ∷ []) word
+      → Moved (shape_in t) a t.reads (own_steps after_load) (record { word = word; was = was; now = found }) × (¬ HoldsAll (shape_in t) q)
   moved_so was differ l concerns = (
-    subst (λ steps. Moved (shape_in t) a steps (record { word = word; was = was; now = found })) (sym own_is) (record {
+    subst (λ steps. Moved (shape_in t) a t.reads steps (record { word = word; was = was; now = found })) (sym own_is) (record {
       earlier = l.earlier;
       first = l.step;
       between = l.later;
@@ -175,16 +172,9 @@ module _ (M : Meaning) (t : TxnState) (prepared : IsPrepared t) (q : PassView) (
 
   -- a word that isn't an own one: of each content that is recorded of it, it is that one still, or it moved
   recorded_moved : is_written (writes_in t) word ≡ false → (r : Read) → Contains t.reads r → r.word ≡ word
-      → (r.content ≡ found) ⊎ (Moved (shape_in t) a (own_steps after_load) (record { word = word; was = r.content; now = found }) × (¬ HoldsAll (shape_in t) q))
-  recorded_moved none r among there =
-      let at = each_in (IsRecorded t) 0 t.reads prepared.has.reads r among in
-      let few = prepared.has.few_reads in
-      let below = at.2 in
-      let x = at.3 in
-      let desc = own_desc_exists (shape_in t) prepared.has.own.0 a.desc prepared.has.own.2 in
-      ⊎_elim inl
-      (λ differ. inr (moved_so r.content differ (recorded_left t prepared word none r among there).1
-      (inl (at.0, (desc, omega (arith, below, few)), subst (λ w. SomeStep (λ s. StoresFor a (address (shape_in t) (read_word a.desc at.0)) s × (s.after ≡ w)) (own_steps t ++ made.step ∷ [])) there (some_then _ x.shown)))))
+      → (r.content ≡ found) ⊎ (Moved (shape_in t) a t.reads (own_steps after_load) (record { word = word; was = r.content; now = found }) × (¬ HoldsAll (shape_in t) q))
+  recorded_moved none r among there = ⊎_elim inl
+      (λ differ. inr (moved_so r.content differ (recorded_left t prepared word none r among there).1 (inl (r, among, there))))
       (cases_eq r.content found)
 
   abbrev pub seen_there : Seen
@@ -202,13 +192,13 @@ module _ (M : Meaning) (t : TxnState) (prepared : IsPrepared t) (q : PassView) (
       leaves = record { there = made.there; after = made.left_it };
       unchanged = All-nil _;
     });
-    moved = λ r among there. subst (λ c. (r.content ≡ c) ⊎ (Moved (shape_in t) a (own_steps after_load) (record { word = word; was = r.content; now = c }) × (¬ HoldsAll (shape_in t) q)))
+    moved = λ r among there. subst (λ c. (r.content ≡ c) ⊎ (Moved (shape_in t) a t.reads (own_steps after_load) (record { word = word; was = r.content; now = c }) × (¬ HoldsAll (shape_in t) q)))
         (sym (whole found)) (recorded_moved none r among there);
   }
 
   -- an own word in which something else is found than what was installed
   pub own_moved : (w : Write) → Contains (writes_in t) w → w.word ≡ word → (let was = installed_word w.old (record { desc = a.desc; slot = w.slot }) in was ≢ found
-      → Moved (shape_in t) a (own_steps after_load) (record { word = word; was = was; now = found }) × (¬ HoldsAll (shape_in t) q))
+      → Moved (shape_in t) a t.reads (own_steps after_load) (record { word = word; was = was; now = found }) × (¬ HoldsAll (shape_in t) q))
   own_moved w among there differ =
       let at = each_in (IsWritten t) 0 (writes_in t) prepared.has.writes w among in
       let x = at.3 in

@@ -119,7 +119,7 @@ module _ (M : Meaning) (lawful : Lawful M) (t : TxnState) (cs : List Certificate
   }
 
   -- another descriptor was met in the word
-  met_other : Concerns (shape_in t) (attempt_in t) (own_steps looked) word
+  met_other : Concerns (shape_in t) (attempt_in t) t.reads (own_steps looked) word
   met_other = inr (inr (inl (the, subst (λ l. Contains l the) (sym own_now) (Contains-push (own_steps t) the), (found, finds, is_other M t prepared q word found step counted none odd))))
 
   -- its count leaves room for an uninstall
@@ -162,10 +162,10 @@ module _ (M : Meaning) (lawful : Lawful M) (t : TxnState) (cs : List Certificate
 
     -- what own steps had left there before, if it isn't what is left now, moved to that
     moved_to : (was : ℕ) → LeftThere (attempt_in t).desc word was (own_steps looked) → was ≢ c.left → Finds word c.left by.last ⊎ (Leaves word c.left by.last × TakesOther (attempt_in t).desc was by.last)
-        → Moved (shape_in t) (attempt_in t) (own_steps cleared) (record { word = word; was = was; now = c.left })
+        → Moved (shape_in t) (attempt_in t) t.reads (own_steps cleared) (record { word = word; was = was; now = c.left })
     moved_to was l differ now =
         let there = left_same (attempt_in t).desc word was (own_steps looked) by.earlier same_earlier l in
-        subst (λ x. Moved (shape_in t) (attempt_in t) x (record { word = word; was = was; now = c.left })) (sym own_then) (record {
+        subst (λ x. Moved (shape_in t) (attempt_in t) t.reads x (record { word = word; was = was; now = c.left })) (sym own_then) (record {
           earlier = there.earlier;
           first = there.step;
           between = there.later;
@@ -176,7 +176,7 @@ module _ (M : Meaning) (lawful : Lawful M) (t : TxnState) (cs : List Certificate
           now = now;
           differ = differ;
           unchanged = there.unchanged;
-          concerns = concerns_more (shape_in t) (attempt_in t) word (own_steps looked) (by.earlier ++ by.last ∷ []) met_other;
+          concerns = concerns_more (shape_in t) (attempt_in t) t.reads word (own_steps looked) (by.earlier ++ by.last ∷ []) met_other;
         })
 
     since : IsPrefix t.began.view.trail r.trail
@@ -216,13 +216,13 @@ module _ (M : Meaning) (lawful : Lawful M) (t : TxnState) (cs : List Certificate
 
     -- an even content is left: of one that was recorded of the word, it is that one still, or it moved
     recorded_now : is_even (count_of c.left) ≡ true → (r : Read) → Contains t.reads r → r.word ≡ word → (r.content ≡ c.left)
-        ⊎ (Moved (shape_in t) (attempt_in t) (own_steps cleared) (record { word = word; was = r.content; now = c.left }) × (¬ HoldsAll (shape_in t) cleared.pass.view))
+        ⊎ (Moved (shape_in t) (attempt_in t) t.reads (own_steps cleared) (record { word = word; was = r.content; now = c.left }) × (¬ HoldsAll (shape_in t) cleared.pass.view))
     recorded_now even read among there =
         let before = recorded_left t prepared word none read among there in
         let now = recorded_left looked looked_going.prepared word none read among there in
         let was_even = before.0 in
         let differ : read.content ≢ found = λ e. true≢false (sym was_even ∙ ap (λ x. is_even (count_of x)) e ∙ odd) in
-        let concerns = subst (λ l. Concerns (shape_in t) (attempt_in t) l word) own_now met_other in
+        let concerns = subst (λ l. Concerns (shape_in t) (attempt_in t) t.reads l word) own_now met_other in
         let live = (moved_so M t prepared q word found step read.content differ before.1 concerns).1 in
         ⊎_elim inl
         (λ apart. inr (
@@ -253,6 +253,6 @@ module _ (M : Meaning) (lawful : Lawful M) (t : TxnState) (cs : List Certificate
         leaves = leaves;
         unchanged = All-nil _;
       });
-      moved = λ r among there. subst (λ x. (r.content ≡ x) ⊎ (Moved (shape_in t) (attempt_in t) (own_steps cleared) (record { word = word; was = r.content; now = x }) × (¬ HoldsAll (shape_in t) cleared.pass.view)))
+      moved = λ r among there. subst (λ x. (r.content ≡ x) ⊎ (Moved (shape_in t) (attempt_in t) t.reads (own_steps cleared) (record { word = word; was = r.content; now = x }) × (¬ HoldsAll (shape_in t) cleared.pass.view)))
           (sym (whole c.left)) (recorded_now even r among there);
     }

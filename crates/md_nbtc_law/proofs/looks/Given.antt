@@ -20,8 +20,8 @@ module _ (t : TxnState) (pass : PassState) (steps : List Step) (own : own_steps 
     even = c.even;
     left = subst (LeftThere (attempt_in t).desc word (seen_content seen)) (sym own) (left_same (attempt_in t).desc word (seen_content seen) (own_steps t) steps same c.left);
     moved = λ r among there. ⊎_elim inl (λ m. inr (
-      subst (λ l. Moved (shape_in t) (attempt_in t) l (record { word = word; was = r.content; now = seen_content seen })) (sym own)
-          (moved_more (shape_in t) (attempt_in t) (own_steps t) steps (record { word = word; was = r.content; now = seen_content seen }) m.0),
+      subst (λ l. Moved (shape_in t) (attempt_in t) t.reads l (record { word = word; was = r.content; now = seen_content seen })) (sym own)
+          (moved_more (shape_in t) (attempt_in t) t.reads (own_steps t) steps (record { word = word; was = r.content; now = seen_content seen }) m.0),
       λ all. m.1 (λ lane below. subst (λ l. Contains l lane) lanes (all lane below)),
     )) (c.moved r among there);
   }

@@ -57,6 +57,7 @@ module _ (M : Meaning) (t : TxnState) (pass : PassState) (lots : List Lot) (n : 
       steps = later.steps.rest;
       own = own_more;
       reads = λ full. full;
+      recorded = λ r c. c;
       slots = λ full. full;
       nodes = none_left t.pass pass shape later.lanes more;
     })

@@ -8,6 +8,7 @@ use Rattle.md_history.specs.Front.{IsPrefix}
 use Rattle.md_history.specs.declared.stops.Stop.{Stop}
 use Rattle.md_history.specs.declared.stops.Shown.{Shown}
 use Rattle.md_machine.specs.declared.attempt.AttemptId.{AttemptId}
+use Rattle.md_machine.specs.declared.attempt.Read.{Read}
 use Rattle.md_machine.specs.declared.attempt.Write.{Write}
 use Rattle.md_machine.specs.declared.certificate.Certificate.{Certificate}
 use Rattle.md_machine.specs.declared.certificate.Fact.{Fact}
@@ -45,13 +46,15 @@ some_more : (P : Step → Type 0) (steps more : List Step) → SomeStep P steps 
 some_more P steps more (s, i, p) = (s, Contains-append_left steps more s i, p)
 
 -- a word that concerns the attempt by some steps does so by more
-pub concerns_more : (shape : Shape) (a : AttemptId) (word : ℕ) (steps more : List Step) → Concerns shape a steps word → Concerns shape a (steps ++ more) word
-concerns_more shape a word steps more = ⊎_elim (λ r. inl (r.0, r.1, some_more _ steps more r.2))
+pub concerns_more : (shape : Shape) (a : AttemptId) (reads : List Read) (word : ℕ) (steps more : List Step) → Concerns shape a reads steps word
+    → Concerns shape a reads (steps ++ more) word
+concerns_more shape a reads word steps more = ⊎_elim inl
     (λ o. inr (⊎_elim (λ c. inl (some_more _ steps more c)) (λ p. inr (⊎_elim (λ f. inl (some_more _ steps more f)) inr p)) o))
 
 -- what moved in some steps moved in more
-pub moved_more : (shape : Shape) (a : AttemptId) (steps more : List Step) (shown : Shown) → Moved shape a steps shown → Moved shape a (steps ++ more) shown
-moved_more shape a steps more shown m = record {
+pub moved_more : (shape : Shape) (a : AttemptId) (reads : List Read) (steps more : List Step) (shown : Shown) → Moved shape a reads steps shown
+    → Moved shape a reads (steps ++ more) shown
+moved_more shape a reads steps more shown m = record {
   earlier = m.earlier;
   first = m.first;
   between = m.between;
@@ -63,7 +66,24 @@ moved_more shape a steps more shown m = record {
   now = m.now;
   differ = m.differ;
   unchanged = m.unchanged;
-  concerns = concerns_more shape a shown.word steps more m.concerns;
+  concerns = concerns_more shape a reads shown.word steps more m.concerns;
+}
+
+-- and by more reads
+pub moved_among : (shape : Shape) (a : AttemptId) (reads others : List Read) → ((r : Read) → Contains reads r → Contains others r)
+    → (steps : List Step) (shown : Shown) → Moved shape a reads steps shown → Moved shape a others steps shown
+moved_among shape a reads others among steps shown m = record {
+  earlier = m.earlier;
+  first = m.first;
+  between = m.between;
+  second = m.second;
+  later = m.later;
+  steps = m.steps;
+  was = m.was;
+  now = m.now;
+  differ = m.differ;
+  unchanged = m.unchanged;
+  concerns = ⊎_elim (λ r. inl (r.0, among r.0 r.1, r.2)) inr m.concerns;
 }
 
 -- a pass with the same lanes, of each of which it took no fewer nodes, has no node left where the other had none
@@ -80,15 +100,17 @@ pub record KeepsSets (t u : TxnState) : Type 0 where
   pub steps : List Step
   pub own : own_steps u ≡ own_steps t ++ steps
   pub reads : length t.reads ≡ SET → length u.reads ≡ SET
+  pub recorded : (r : Read) → Contains t.reads r → Contains u.reads r
   pub slots : length t.slots ≡ SET → length u.slots ≡ SET
   pub nodes : NoLane t.pass (HasNodeLeft t.pass) → NoLane u.pass (HasNodeLeft u.pass)
 
 pub cause_kept : (t u : TxnState) → KeepsSets t u → (s : Stop) → HasCause t s → HasCause u s
 cause_kept t u k s c = record {
-  moved = λ shown is. subst (λ l. Moved (shape_in u) (attempt_in u) l shown) (sym k.own)
-      (subst (λ x. Moved x (attempt_in u) (own_steps t ++ k.steps) shown) (sym k.shape)
-      (subst (λ a. Moved (shape_in t) a (own_steps t ++ k.steps) shown) (sym k.attempt)
-      (moved_more (shape_in t) (attempt_in t) (own_steps t) k.steps shown (c.moved shown is))));
+  moved = λ shown is. moved_among (shape_in u) (attempt_in u) t.reads u.reads k.recorded (own_steps u) shown
+      (subst (λ l. Moved (shape_in u) (attempt_in u) t.reads l shown) (sym k.own)
+      (subst (λ x. Moved x (attempt_in u) t.reads (own_steps t ++ k.steps) shown) (sym k.shape)
+      (subst (λ a. Moved (shape_in t) a t.reads (own_steps t ++ k.steps) shown) (sym k.attempt)
+      (moved_more (shape_in t) (attempt_in t) t.reads (own_steps t) k.steps shown (c.moved shown is)))));
   others = λ shown is all. c.others shown is
       (subst (λ x. HoldsAll x t.pass.view) k.shape (λ lane below. subst (λ l. Contains l lane) k.lanes (all lane below)));
   reads = λ is. k.reads (c.reads is);
@@ -141,6 +163,7 @@ module _ (M : Meaning) (t : TxnState) (pass : PassState) where
       steps = later.steps.rest;
       own = own_more;
       reads = λ full. full;
+      recorded = λ r c. c;
       slots = λ full. full;
       nodes = none_left t.pass pass shape later.lanes (λ lane. subst (λ (x : List Share). (share_at t.pass.shares lane).nodes_taken ≤ (share_at x lane).nodes_taken) (sym shares) (omega arith));
     })

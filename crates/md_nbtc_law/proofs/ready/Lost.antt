@@ -153,7 +153,7 @@ module _ (M : Meaning) (t : TxnState) (prepared : IsPrepared t) (q : PassView) (
   Still s = s.word ≡ status → (s.before ≡ s.after) ⊎ TakesOther a.desc (unready_word a) s
 
   -- the status word moved under the transaction
-  pub lost_moved : Moved (shape_in t) a (own_steps (record t { pass = refused })) (shown_unready t)
+  pub lost_moved : Moved (shape_in t) a t.reads (own_steps (record t { pass = refused })) (shown_unready t)
   lost_moved = let l = prepared.status in record {
     earlier = l.earlier;
     first = l.step;

@@ -169,6 +169,6 @@ module _ (M : Meaning) (t : TxnState) (prepared : IsPrepared t) (f : ℕ → Own
         let trail = trail_after (shape_in t) (m.step ∷ []) t.pass.view r.view m.goes in
         let longer = own_grows t.began.view.trail r.view.trail s.view.trail w.steps
         (record { rest = since.rest ++ m.step ∷ []; is = trail ∙ ap (λ l. l ++ m.step ∷ []) since.is ∙ append_assoc t.began.view.trail since.rest (m.step ∷ []) }) w.trail in (
-          subst (λ l. Moved (shape_in t) (attempt_in t) l (shown_unready t)) (sym longer) (moved_more (shape_in t) (attempt_in t) (own_steps (record t { pass = record t.pass { view = r.view } })) w.steps (shown_unready t) shown.0),
+          subst (λ l. Moved (shape_in t) (attempt_in t) t.reads l (shown_unready t)) (sym longer) (moved_more (shape_in t) (attempt_in t) t.reads (own_steps (record t { pass = record t.pass { view = r.view } })) w.steps (shown_unready t) shown.0),
           λ all. shown.1 (λ lane below. subst (λ l. Contains l lane) w.same.lanes (all lane below)),
         )

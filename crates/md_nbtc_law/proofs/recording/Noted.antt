@@ -1,8 +1,8 @@
 -- A transaction that recorded a word goes on.
-use Rattle.std.proofs.Common.{◌≡◌, ◌≢◌, ◌++◌, ◌∷◌, ◌<◌, ℕ, true, false, List, [], length, Some, None, is_some, refl, sym, ap, ◌∙◌, subst, inl, ⊎_elim, arith}
+use Rattle.std.proofs.Common.{◌≡◌, ◌≢◌, ◌++◌, ◌∷◌, ◌<◌, ℕ, true, false, List, [], length, Some, None, is_some, refl, sym, ap, ◌∙◌, subst, inl, inr, ⊎_elim, arith}
 use Rattle.std.proofs.lemmas.Bool.{cases_eq}
 use Rattle.std.proofs.lemmas.List.{append-nil}
-use Rattle.std.proofs.lemmas.List.Elements.{All-weaker, Contains-push_cases}
+use Rattle.std.proofs.lemmas.List.Elements.{All-weaker, Contains-append_left, Contains-push_cases}
 use Rattle.std.proofs.lemmas.Option.{IfSome_then}
 use Rattle.md_words.specs.declared.limits.TheConstants.{SET}
 use Rattle.md_words.specs.Content.{count_of, is_even, value_of}
@@ -28,7 +28,7 @@ use Rattle.md_nbtc_law.specs.Seeing.{Gave, MayChange, SeesContent}
 use Rattle.md_nbtc_law.specs.State.{TxnState, attempt_in, own_steps, seen_content, shape_in, writes_in}
 use Rattle.md_nbtc_law.proofs.looks.Given.{gave_same}
 use Rattle.md_nbtc_law.proofs.preparing.Carried.{change_carried, first_carried, kept_carried, unplaced_carried}
-use Rattle.md_nbtc_law.proofs.preparing.GoingOn.{cause_kept, none_left}
+use Rattle.md_nbtc_law.proofs.preparing.GoingOn.{cause_kept, moved_among, none_left}
 use Rattle.md_nbtc_law.proofs.preparing.Later.{known_later}
 use Rattle.md_nbtc_law.proofs.preparing.Fronts.{front_after}
 use Rattle.md_nbtc_law.proofs.recording.ReadMore.{counted_apart, now, own_then, read_prepared}
@@ -84,6 +84,7 @@ module _ (M : Meaning) (t : TxnState) (prepared : IsPrepared t) (word : ℕ) (se
     steps = steps;
     own = own_more;
     reads = λ full. absurd (omega (arith, full, room));
+    recorded = λ r c. Contains-append_left t.reads (new_read ∷ []) r c;
     slots = λ full. full;
     nodes = none_left t.pass noted.pass refl lanes_same (λ lane. omega arith);
   })
@@ -160,7 +161,15 @@ module _ (M : Meaning) (t : TxnState) (prepared : IsPrepared t) (word : ℕ) (se
           content = λ is. let c = on.content is in record {
             even = c.even;
             left = c.left;
-            moved = λ r among there. ⊎_elim (λ old. c.moved r old there) (λ new. inl (sym (ap (λ (y : Read). y.content) new) ∙ same (sym there ∙ sym (ap (λ (y : Read). y.word) new))))
+            moved = λ r among there. ⊎_elim
+                (λ old. ⊎_elim inl
+                (λ m. inr (
+                  moved_among (shape_in t) (attempt_in t) t.reads noted.reads (λ y d. Contains-append_left t.reads (new_read ∷ []) y d) (own_steps noted)
+                      (record { word = w; was = r.content; now = seen_content x }) m.0,
+                  m.1,
+                ))
+                (c.moved r old there))
+                (λ new. inl (sym (ap (λ (y : Read). y.content) new) ∙ same (sym there ∙ sym (ap (λ (y : Read). y.word) new))))
                 (Contains-push_cases t.reads new_read r among);
           };
         }

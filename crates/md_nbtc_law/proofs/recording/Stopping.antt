@@ -36,7 +36,7 @@ moved_cause t word seen gave other was now recorded now_is differ =
     conflict_cause t (record { word = word; was = was; now = now }) so.0 so.1
   where
     Moves : (was now : ℕ) → Type 0
-    Moves was now = Moved (shape_in t) (attempt_in t) (own_steps t) (record { word = word; was = was; now = now }) × (¬ HoldsAll (shape_in t) t.pass.view)
+    Moves was now = Moved (shape_in t) (attempt_in t) t.reads (own_steps t) (record { word = word; was = was; now = now }) × (¬ HoldsAll (shape_in t) t.pass.view)
 
 pub stopped_on : (M : Meaning) (t : TxnState) (going : IsUnderWay M t) (stop : Stop) → HasCause t stop → GoesOn M t (halted t going.1.prepared stop)
 stopped_on M t going stop cause = record { going = halted_going t going.1.prepared stop M cause; later = halted_later t going.1.prepared stop }

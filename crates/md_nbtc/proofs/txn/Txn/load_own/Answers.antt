@@ -122,7 +122,7 @@ returns-clause-on g c =
     let u = after_load M t prepared q.view c.args.word c.load-now.result step in
     subst (λ v. GoesOn M t (record v { stop = Some (Conflict shown) })) (sym (loaded_so M x.field.now x.pass.now x.began.value x.sets.now.reads x.sets.now.slots x.stop x.desc x.serial x.tag x.sets.now.lots q c.load-now.ensures.same c.args.word c.load-now.result step))
     (stopped_on M t u c.requires.going (loaded_on M t c.requires.going q.view c.args.word c.load-now.result step c.requires.counted) (Conflict shown)
-    (conflict_cause u shown (subst (λ w. Moved (shape_in t) (attempt_in t) (own_steps u) (record { word = c.args.word; was = w; now = c.load-now.result })) (sym is) moved.0) moved.1))
+    (conflict_cause u shown (subst (λ w. Moved (shape_in t) (attempt_in t) t.reads (own_steps u) (record { word = c.args.word; was = w; now = c.load-now.result })) (sym is) moved.0) moved.1))
 
 pub returns-clause-looked : goal.returns-clause-looked
 returns-clause-looked g c =
