@@ -6,7 +6,6 @@ pub mod Answered
 pub mod Decided
 pub mod Commits
 pub mod Aborts
-pub mod StoodThen
 pub mod Tells
 pub mod Shows
 pub mod Outcome

@@ -1,4 +1,5 @@
 pub mod Lookups
+pub mod Unwritten
 pub mod Bridge
 pub mod Nodes
 pub mod Standing
@@ -7,5 +8,6 @@ pub mod MayBeReady
 pub mod Lost
 pub mod Telling
 pub mod Won
+pub mod Stored
 pub mod Outcome
 pub mod Cleanups

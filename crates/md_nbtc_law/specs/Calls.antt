@@ -126,7 +126,7 @@ Notes noted t u word seen result = (result ≡ Ok tt) × (u ≡ t)
 Notes (recorded held) t u word seen result = Refuses t u (Conflict (record { word = word; was = held; now = seen_content seen })) result
 Notes full t u word seen result = Refuses t u (Limited Reads) result
 Notes unread t u word seen result = (result ≡ Ok tt)
-    × (u ≡ record t { pass = u.pass; reads = t.reads ++ (record { word = word; content = seen_content seen; stood = true }) ∷ [] })
+    × (u ≡ record t { reads = t.reads ++ (record { word = word; content = seen_content seen; stood = true }) ∷ [] })
 
 -- a fresh node: the lowest that is left, with these words
 pub record Freshens (t u : TxnState) (key value next : ℕ) (node : ℕ) : Type 0 where

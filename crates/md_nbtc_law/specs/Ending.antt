@@ -25,6 +25,7 @@ use Rattle.md_machine.specs.Machine.{was_begun}
 use Rattle.md_machine.specs.Own.{HasNode}
 use Rattle.md_machine.specs.clauses.nodes.FreeNodes.{IsFreeBy}
 use Rattle.md_machine.specs.events.Exchange.{exchanged_word}
+use Rattle.md_machine.specs.Certified.{is_written}
 use Rattle.md_machine.specs.Meaning.{Meaning}
 use Rattle.md_machine.specs.Moved.{Moved}
 use Rattle.md_machine.specs.Trail.{Loads, Meets, SomeStep, read_stands}
@@ -40,11 +41,11 @@ use Rattle.md_nbtc_law.specs.declared.seen.Cleanup.TheVariants.{MoveTail, Unlink
 use Rattle.md_nbtc_law.specs.declared.slots.Slot.{Slot}
 use Rattle.md_nbtc_law.specs.declared.seen.TheConstants.{WORN}
 use Rattle.md_nbtc_law.specs.Cleaning.{FitsCleanup, cleanup_node, cleanup_value, cleanup_word}
-use Rattle.md_nbtc_law.specs.Prepared.{IsHeld, LastOn}
+use Rattle.md_nbtc_law.specs.Prepared.{EachFrom, IsHeld, IsStoredAt, LastOn}
 use Rattle.md_nbtc_law.specs.Seeing.{IsNextOf}
 use Rattle.md_nbtc_law.specs.Withdrawing.{MeetsFate, TakesWrite}
 use Rattle.md_nbtc_law.specs.Telling.{Told, read_count, write_count}
-use Rattle.md_nbtc_law.specs.State.{OwnNode, SameNodes, TxnState, attempt_in, own_steps, shape_in, writes_in}
+use Rattle.md_nbtc_law.specs.State.{OwnNode, SameNodes, TxnState, attempt_in, own_steps, shape_in, unwritten_reads, writes_in}
 
 -- what steps and marks leave of a pass: its field, its lanes, what it answered; it made more steps, and knows more fates
 pub record IsSamePass (p q : PassState) : Type 0 where
@@ -167,11 +168,14 @@ pub record IsReady (M : Meaning) (t : TxnState) : Type 0 where
   pub has : IsHeld t
   pub entry : HasEntry t
   pub left : LastOn (address (shape_in t) (desc_status (attempt_in t).desc)) (ready_word (attempt_in t) (length t.reads)) (own_steps t)
+  -- its reads are stored, each at its place, and none is of a word that it writes
+  pub stored : EachFrom (IsStoredAt t) 0 t.reads
+  pub unwritten : All (λ (r : Read). is_written (writes_in t) r.word ≡ false) t.reads
   pub nodes : All (λ (n : OwnNode). HasNode (shape_in t) t.pass.view n.node × IsFreeBy entry.before entry.fates n.node) t.nodes
   pub cleanups : All (λ (s : Slot). IfSome s.cleanup (IsReadyCleanup M t entry s.write)) t.slots
 
 -- a transaction became ready: its pass saw what others had entered, none of it of its own lanes, and last the transaction's
--- entry, which is of the lane of its descriptor
+-- entry, which is of the lane of its descriptor. It has no reads any more but those of words that it doesn't write
 pub record Readies (t u : TxnState) (e : HasEntry u) : Type 0 where
   pub same : IsSamePass t.pass u.pass
   pub others : List HistoryEntry
@@ -183,7 +187,7 @@ pub record Readies (t u : TxnState) (e : HasEntry u) : Type 0 where
   pub mine : u.pass.view.mine ≡ t.pass.view.mine
   pub pending : u.pass.view.pending ≡ t.pass.view.pending
   pub shares : u.pass.shares ≡ t.pass.shares
-  pub rest : u ≡ record t { pass = u.pass }
+  pub rest : u ≡ record t { pass = u.pass; reads = unwritten_reads t }
 
 -- what is shown of a transaction whose descriptor another aborted before it was ready, and after
 abbrev pub shown_unready : TxnState → Shown

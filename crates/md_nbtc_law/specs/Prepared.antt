@@ -26,7 +26,7 @@ use Rattle.md_arena.specs.Left.{HasNodeLeft}
 use Rattle.md_rule.specs.Kept.{IsLeft}
 use Rattle.md_rule_lanes.specs.Shares.{share_at}
 use Rattle.md_rule.specs.Views.{IsOf, PassState}
-use Rattle.md_nbtc_law.specs.State.{OwnNode, TxnState, attempt_in, lots_since, own_steps, shape_in, writes_in}
+use Rattle.md_nbtc_law.specs.State.{OwnNode, TxnState, attempt_in, lots_since, own_steps, shape_in, unwritten_reads, writes_in}
 
 -- a step of these left the content in the word, and since then none changed the word, but for taking out another's
 -- descriptor
@@ -66,15 +66,16 @@ pub record StoredOnce (a : AttemptId) (word : ℕ) (steps : List Step) : Type 0 
   pub before : All (λ s. ¬ StoresFor a word s) earlier
   pub since : All (λ s. ¬ StoresFor a word s) later
 
--- a read is stored in the descriptor, by an own step: its word is a counted one, in which an own step left the recorded
--- content, even
-pub record IsRecorded (t : TxnState) (i : ℕ) (r : Read) : Type 0 where
+-- a read is of a counted word, in which an own step left the recorded content, even
+pub record IsRecorded (t : TxnState) (r : Read) : Type 0 where
   pub counted : IsCounted (shape_in t) r.word
   pub even : is_even (count_of r.content) ≡ true
+  pub left : content_replaced (writes_in t) r.word ≡ None → LeftThere (attempt_in t).desc r.word r.content (own_steps t)
+
+-- it was stored in the descriptor, at a place
+pub record IsStoredAt (t : TxnState) (i : ℕ) (r : Read) : Type 0 where
   pub word : LastStored t.pass.view (attempt_in t) (address (shape_in t) (read_word (attempt_in t).desc i)) r.word
   pub content : LastStored t.pass.view (attempt_in t) (address (shape_in t) (read_content (attempt_in t).desc i)) r.content
-  pub shown : SomeStep (λ s. StoresFor (attempt_in t) (address (shape_in t) (read_word (attempt_in t).desc i)) s × (s.after ≡ r.word)) (own_steps t)
-  pub left : content_replaced (writes_in t) r.word ≡ None → LeftThere (attempt_in t).desc r.word r.content (own_steps t)
 
 -- a step installed the slot, where it found the slot's old content
 abbrev pub InstallsFrom : AttemptId → Write → Step → Type 0
@@ -142,7 +143,7 @@ pub record IsHeld (t : TxnState) : Type 0 where
   pub few_reads : length t.reads ≤ SET
   pub few_writes : length t.slots ≤ SET
   -- what it recorded and wrote: each word once, and of one that it recorded and wrote the contents agree
-  pub reads : EachFrom (IsRecorded t) 0 t.reads
+  pub reads : All (IsRecorded t) t.reads
   pub writes : EachFrom (IsWritten t) 0 (writes_in t)
   pub recorded_once : AllPairs (λ r s. r.word ≢ s.word) t.reads
   pub written_once : AllPairs (λ w v. w.word ≢ v.word) (writes_in t)
@@ -151,6 +152,10 @@ pub record IsHeld (t : TxnState) : Type 0 where
   -- each install that the pass won for the attempt is among them
   pub all : EveryStepOf t.pass.view (λ s. WonInstall (attempt_in t) s → (w : Write) × Contains (writes_in t) w × InstallsFrom (attempt_in t) w s)
   pub nodes_differ : AllPairs (λ n k. n.node ≢ k.node) t.nodes
+
+-- the reads of words that it doesn't write are stored at the first places, in order
+abbrev pub StoresReads : TxnState → Type 0
+StoresReads t = EachFrom (IsStoredAt t) 0 (unwritten_reads t)
 
 -- and it isn't ready, so nothing places its nodes
 pub record IsPrepared (t : TxnState) : Type 0 where

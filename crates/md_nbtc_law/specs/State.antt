@@ -21,6 +21,7 @@ use Rattle.md_rule.specs.Views.{FieldView, PassState}
 use Rattle.md_nbtc_law.specs.declared.slots.Lot.{Lot}
 use Rattle.md_nbtc_law.specs.declared.slots.Slot.{Slot}
 use Rattle.md_nbtc_law.specs.declared.seen.Seen.{Seen}
+use Rattle.md_nbtc_law.specs.Sets.{unwritten}
 
 -- an own node: one that the transaction took, with the words that it stored there
 pub record OwnNode : Type 0 where
@@ -127,6 +128,10 @@ attempt_in t = t.hand.attempt
 
 abbrev pub writes_in : TxnState → List Write
 writes_in t = map (λ s. s.write) t.slots
+
+-- what it recorded of words that it doesn't write
+abbrev pub unwritten_reads : TxnState → List Read
+unwritten_reads t = unwritten (writes_in t) t.reads
 
 -- the installs that it made
 abbrev pub installs_in : TxnState → List Install

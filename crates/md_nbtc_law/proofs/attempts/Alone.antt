@@ -38,7 +38,7 @@ use Rattle.md_nbtc_law.proofs.exchanging.Refused.{read_there}
 use Rattle.md_nbtc_law.proofs.looks.AloneChain.{ChainsFrom, chain_push, chained, held_of}
 use Rattle.md_nbtc_law.proofs.looks.Causes.{left_finds, none_is, own_rest, recorded_left}
 use Rattle.md_nbtc_law.proofs.ready.Bridge.{is_present, own_step, slot_at}
-use Rattle.md_nbtc_law.proofs.ready.Lookups.{each_in, written_found, written_replaced}
+use Rattle.md_nbtc_law.proofs.ready.Lookups.{written_found, written_replaced}
 
 -- the last step on a word left the content there
 last_there : (desc word held : ℕ) (steps : List Step) → LastOn word held steps → LeftThere desc word held steps
@@ -123,7 +123,7 @@ module _ (M : Meaning) (t : TxnState) (prepared : IsPrepared t) (m : Machine) (a
       let r = read_there t.reads word held (first_or (content_read t.reads word) (content_replaced (writes_in t) word) held none first) in
       let left = recorded_left t prepared word is r.0 r.1 r.2 in
       let now = left_stands word r.0.content left.1 in
-      let record_of = (each_in (IsRecorded t) 0 t.reads prepared.has.reads r.0 r.1).3 in
+      let record_of = All-contains (IsRecorded t) t.reads r.0 prepared.has.reads r.1 in
       let counted = subst (IsCounted (shape_of m)) r.2 (subst (λ s. IsCounted s r.0.word) (sym admitted.shape) record_of.counted) in
       ap value_of (sym r.3 ∙ sym now) ∙ sym (value_even m choice word counted (ap (λ x. is_even (count_of x)) now ∙ left.0))
 

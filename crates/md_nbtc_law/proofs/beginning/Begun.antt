@@ -125,7 +125,7 @@ module _ (M : Meaning) (field : FieldView) (began now : PassState) (desc tag ser
       stored = λ node left some. no_steps some.0 some.1 some.2.0 some.2.1 (some.2.2.attempt ∙ ap Some is_attempt);
       few_reads = omega arith;
       few_writes = omega arith;
-      reads = tt;
+      reads = All-nil (IsRecorded begun);
       writes = tt;
       recorded_once = none_pairs (λ (x y : Read). x.word ≢ y.word);
       written_once = none_pairs (λ (x y : Write). x.word ≢ y.word);

@@ -29,10 +29,10 @@ use Rattle.md_help.proofs.Deciding.{since_met}
 use Rattle.md_nbtc_law.specs.declared.slots.TheConstants.{NO_READ}
 use Rattle.md_nbtc_law.specs.Deciding.{LooksAtCounted, MayDecide, Validates}
 use Rattle.md_nbtc_law.specs.Ending.{IsReady}
-use Rattle.md_nbtc_law.specs.Prepared.{EachFrom, IsRecorded}
+use Rattle.md_nbtc_law.specs.Prepared.{EachFrom, IsRecorded, IsStoredAt}
 use Rattle.md_nbtc_law.specs.State.{TxnState, attempt_in, own_steps, shape_in}
 use Rattle.md_nbtc_law.proofs.preparing.Quiet.{IsQuiet, stored_still}
-use Rattle.md_nbtc_law.proofs.ready.Lookups.{all_of, each_in}
+use Rattle.md_nbtc_law.proofs.ready.Lookups.{each_in}
 use Rattle.md_nbtc_law.proofs.ready.Lost.{began_then}
 
 -- a look is quiet
@@ -74,7 +74,7 @@ module _ (M : Meaning) (t : TxnState) (ready : IsReady M t) where
   hand_is = ap attempt_in_hand ready.has.held
 
   pub reads_counted : All (λ (r : Read). IsCounted (shape_in t) r.word) t.reads
-  reads_counted = all_of _ t.reads (λ r c. (each_in (IsRecorded t) 0 t.reads ready.has.reads r c).3.counted)
+  reads_counted = All-weaker (IsRecorded t) (λ (r : Read). IsCounted (shape_in t) r.word) (λ r x. x.counted) t.reads ready.has.reads
 
   -- the transaction's own steps are the last of its pass
   pub own_last : t.pass.view.trail ≡ t.began.view.trail ++ own_steps t
@@ -104,7 +104,7 @@ module _ (M : Meaning) (t : TxnState) (ready : IsReady M t) where
     quiet : All IsQuiet v.steps
     quiet = All-weaker (LooksAtCounted (shape_in t)) IsQuiet (look_is_quiet (shape_in t)) v.steps v.looks
 
-    found_read : (i : ℕ) (r : Read) → IsRecorded t i r → (found : ℕ) (stood : Bool) → SomeStep (Loads r.word found) v.steps → read_stands a.desc r.content found ≡ stood
+    found_read : (i : ℕ) (r : Read) → IsStoredAt t i r → (found : ℕ) (stood : Bool) → SomeStep (Loads r.word found) v.steps → read_stands a.desc r.content found ≡ stood
         → FoundRead stood (shape_in t) q (ready.left.later ++ v.steps) a i
     found_read i r is found stood loads stands = (
       record {
@@ -128,7 +128,7 @@ module _ (M : Meaning) (t : TxnState) (ready : IsReady M t) where
     since = since_met (shape_in t) q a.desc from (met_ready v.steps q v.goes);
     stood = λ i below. let less = subst (λ n. i < n) from_reads below in
         let r = get_or t.reads i NO_READ in
-        let is = subst (λ n. IsRecorded t n r) (omega arith) (each_get (IsRecorded t) 0 t.reads ready.has.reads i less) in
+        let is = subst (λ n. IsStoredAt t n r) (omega arith) (each_get (IsStoredAt t) 0 t.reads ready.stored i less) in
         let f = v.finds i less in
         subst (λ b. FoundRead true (shape_in t) q (ready.left.later ++ v.steps) b i) (same_attempt q None v) (found_read q None v i r is f.found true f.loads f.stands);
   }
@@ -136,7 +136,7 @@ module _ (M : Meaning) (t : TxnState) (ready : IsReady M t) where
   may_abort : (q : PassView) (shown : Shown) → Validates (shape_in t) a.desc t.reads (length t.reads) (Some shown) t.pass.view q → MayAbort (shape_in t) q a.desc from
   may_abort q shown v =
       let f = v.finds in
-      let at = each_in (IsRecorded t) 0 t.reads ready.has.reads f.read f.among in
+      let at = each_in (IsStoredAt t) 0 t.reads ready.stored f.read f.among in
       let below = at.2 in record {
         exists = desc_is;
         reached = inl (own_then v.steps q v.goes);

@@ -15,7 +15,6 @@ use Rattle.md_machine.specs.Machine.{content}
 use Rattle.md_machine.specs.Meaning.{Meaning}
 use Rattle.md_machine.specs.Trail.{SomeStep}
 use Rattle.md_machine.specs.events.Decide.{decided_word}
-use Rattle.md_rule.specs.Steps.{SteppedFrom}
 use Rattle.md_rule.specs.Views.{PassState}
 use Rattle.md_rule.proofs.Moves.{is_kept}
 use Rattle.md_help.proofs.Numbers.{formats_of}
@@ -112,9 +111,6 @@ module _ (M : Meaning) (t : TxnState) (ready : IsReady M t) (x : AttemptId) (x_i
         e_trail : e.view.trail ≡ p.view.trail ++ s.step ∷ w.steps
         e_trail = w.trail ∙ ap (λ l. l ++ w.steps) (trail_after (shape_in t) (s.step ∷ []) p.view q.view s.goes) ∙ append_assoc p.view.trail (s.step ∷ []) w.steps
 
-        told_of : s.step.before ≡ from M t ready → SteppedFrom M t.field.origin s.event (address (shape_in t) (desc_status a.desc)) (from M t ready) p.view q.view
-        told_of before = subst (λ h. SteppedFrom M t.field.origin s.event (address (shape_in t) (desc_status a.desc)) h p.view q.view) before s.told
-
         own : s.step.before ≡ from M t ready
             → (let k = shown_aborted t in SomeStep (λ y. (y.word ≡ k.word) × (y.before ≡ k.was) × (y.after ≡ k.now)) (own_steps (record t { pass = e })))
         own before = (
@@ -130,7 +126,7 @@ module _ (M : Meaning) (t : TxnState) (ready : IsReady M t) (x : AttemptId) (x_i
         by_read is before =
             let u = subst (λ y. Validates (shape_in t) a.desc t.reads (length t.reads) y t.pass.view p.view) is v in
             let f = u.finds in (
-              moved_shows M t ready p.view shown u stands s.event q.view (told_of before) e (s.step ∷ w.steps)
+              moved_shows M t ready p.view shown u stands e (s.step ∷ w.steps)
                   (e_trail ∙ ap (λ l. l ++ s.step ∷ w.steps) (trail_after (shape_in t) u.steps t.pass.view p.view u.goes ∙ ap (λ l. t.pass.view.trail ++ l) f.order))
                   (w.same.lanes ∙ ap (λ (y : PassView). y.lanes) s.goes.1),
               inl (record { read = f.read; among = f.among; is = (f.is, f.was); moved = f.moved; own = own before }),

@@ -1,5 +1,5 @@
 -- What an aborted transaction shows: the read that didn't stand, or that another aborted it.
-use Rattle.std.proofs.Common.{◌≡◌, ◌≢◌, ◌⊎◌, ◌==◌, ◌&&◌, ◌||◌, ◌≤◌, ◌<◌, ◌+◌, ◌++◌, ◌∷◌, ℕ, false, List, [], Option, Some, None, length, refl, sym, ap, ◌∙◌, subst, inl, inr, append_assoc, eq-eqb, arith}
+use Rattle.std.proofs.Common.{◌≡◌, ◌≢◌, ◌⊎◌, ◌==◌, ◌&&◌, ◌||◌, ◌+◌, ◌++◌, ◌∷◌, ℕ, false, List, [], Option, Some, None, length, refl, sym, ap, ◌∙◌, subst, inl, inr, append_assoc, eq-eqb, arith}
 use Rattle.std.proofs.lemmas.Bool.{false≢true}
 use Rattle.std.proofs.lemmas.List.Elements.{All-append, All-contains, All-weaker, Contains-push}
 use Rattle.std.specs.List.{All, Contains}
@@ -12,17 +12,16 @@ use Rattle.md_words.proofs.Words.{status_word-adds}
 use Rattle.md_history.specs.Front.{IsPrefix}
 use Rattle.md_history.specs.declared.stops.Shown.{Shown}
 use Rattle.md_machine.specs.declared.attempt.AttemptId.{AttemptId}
+use Rattle.md_machine.specs.declared.attempt.Read.{Read}
 use Rattle.md_machine.specs.declared.pass.PassView.{PassView}
 use Rattle.md_machine.specs.declared.step.Step.{Step}
-use Rattle.md_machine.specs.Certified.{content_replaced}
+use Rattle.md_machine.specs.Certified.{content_replaced, is_written}
 use Rattle.md_machine.specs.Meaning.{Meaning}
 use Rattle.md_machine.proofs.chain.Agree.{all_left}
 use Rattle.md_machine.specs.Moved.{Concerns, Moved, TakesOther}
 use Rattle.md_machine.specs.Trail.{holds_desc, is_store}
 use Rattle.md_machine.specs.declared.step.Kind.TheVariants.{Abort, Commit}
-use Rattle.md_rule.specs.Steps.{EventOf, SteppedFrom}
 use Rattle.md_nbtc_law.proofs.decisions.Decided.{deciding_quiet}
-use Rattle.md_nbtc_law.proofs.decisions.StoodThen.{stood_there}
 use Rattle.md_machine.specs.clauses.passes.Alone.{HoldsAll}
 use Rattle.md_machine.specs.events.Decide.{decided_word}
 use Rattle.md_rule.specs.Views.{PassState}
@@ -35,9 +34,9 @@ use Rattle.md_nbtc_law.specs.Prepared.{IsRecorded, LeftThere}
 use Rattle.md_nbtc_law.specs.State.{TxnState, attempt_in, own_steps, shape_in, writes_in}
 use Rattle.md_nbtc_law.proofs.decisions.MaySettle.{from, from_reads, from_serial, from_status}
 use Rattle.md_nbtc_law.proofs.looks.AloneChain.{ChainsFrom, chained}
-use Rattle.md_nbtc_law.proofs.looks.Causes.{left_finds, own_rest}
+use Rattle.md_nbtc_law.proofs.looks.Causes.{left_finds, none_is, own_rest}
 use Rattle.md_nbtc_law.proofs.preparing.GoingOn.{concerns_more, moved_more, own_grows}
-use Rattle.md_nbtc_law.proofs.ready.Lookups.{each_in, replaced_found}
+use Rattle.md_nbtc_law.proofs.ready.Lookups.{written_replaced}
 
 -- a later step finds another content than an own step left in the word, and those between don't change it: the word moved,
 -- and another pass is live
@@ -102,21 +101,21 @@ module _ (M : Meaning) (t : TxnState) (ready : IsReady M t) (q : PassView) where
   looks_same steps looks = All-weaker (LooksAtCounted (shape_in t)) (λ (x : Step). x.before ≡ x.after) (λ s l. l.same) steps looks
 
   -- the read that didn't stand, where this pass decided the transaction by it
-  module _ (shown : Shown) (v : Validates (shape_in t) b.desc t.reads (length t.reads) (Some shown) t.pass.view q) (stands : StandsInField M t.field.origin q)
-      (event : EventOf) (r : PassView) (told : SteppedFrom M t.field.origin event (address (shape_in t) (desc_status b.desc)) (from M t ready) q r) where
+  module _ (shown : Shown) (v : Validates (shape_in t) b.desc t.reads (length t.reads) (Some shown) t.pass.view q) (stands : StandsInField M t.field.origin q) where
     abbrev f : FoundReadMoved b.desc t.reads shown t.pass.view v.steps
     f = v.finds
 
-    recorded : (i : ℕ) × (0 ≤ i) × (i < 0 + length t.reads) × IsRecorded t i f.read
-    recorded = each_in (IsRecorded t) 0 t.reads ready.has.reads f.read f.among
+    recorded : IsRecorded t f.read
+    recorded = All-contains (IsRecorded t) t.reads f.read ready.has.reads f.among
 
     -- it isn't a word that the transaction wrote
-    unwritten : (o : Option ℕ) → content_replaced (writes_in t) f.read.word ≡ o → content_replaced (writes_in t) f.read.word ≡ None
-    unwritten None is = is
-    unwritten (Some old) is = let w = replaced_found (writes_in t) f.read.word old is in absurd (stood_there M t ready q shown v event r told w.0 w.1 w.2)
+    unwritten : content_replaced (writes_in t) f.read.word ≡ None
+    unwritten = none_is (content_replaced (writes_in t) f.read.word)
+        (sym (written_replaced (writes_in t) f.read.word)
+        ∙ All-contains (λ (x : Read). is_written (writes_in t) x.word ≡ false) t.reads f.read ready.unwritten f.among)
 
     left : LeftThere b.desc shown.word shown.was (own_steps t)
-    left = subst (λ x. LeftThere b.desc x shown.was (own_steps t)) (sym f.is) (subst (λ x. LeftThere b.desc f.read.word x (own_steps t)) (sym f.was) (recorded.3.left (unwritten _ refl)))
+    left = subst (λ x. LeftThere b.desc x shown.was (own_steps t)) (sym f.is) (subst (λ x. LeftThere b.desc f.read.word x (own_steps t)) (sym f.was) (recorded.left unwritten))
 
     looks : All (LooksAtCounted (shape_in t)) (f.earlier ++ f.last ∷ [])
     looks = subst (All (LooksAtCounted (shape_in t))) f.order v.looks

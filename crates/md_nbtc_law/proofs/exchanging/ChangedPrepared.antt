@@ -1,12 +1,11 @@
 -- A transaction stays prepared over one step by which its slots, or the changes of its operation, become others.
-use Rattle.std.proofs.Common.{◌≡◌, ◌≢◌, ◌++◌, ◌∷◌, ◌<◌, ◌≤◌, ℕ, true, false, List, [], length, Some, None, refl, sym, ap, ◌∙◌, subst, append_assoc, ⊎_elim, if◌then◌else◌, nat_lt, arith}
-use Rattle.std.proofs.lemmas.Bool.{true≢false}
+use Rattle.std.proofs.Common.{◌≡◌, ◌≢◌, ◌++◌, ◌∷◌, ◌<◌, ◌≤◌, ℕ, false, List, [], length, Some, None, refl, sym, ap, ◌∙◌, subst, append_assoc, ⊎_elim, if◌then◌else◌, nat_lt}
 use Rattle.std.proofs.lemmas.List.Elements.{All-append, All-cons, All-contains, All-nil, Contains-append_left, Contains-push_cases}
 use Rattle.std.specs.List.{All, AllPairs, Contains, flat_map}
 use Rattle.md_words.specs.declared.limits.TheConstants.{SET}
 use Rattle.md_words.specs.Layout.{IsNode, address}
 use Rattle.md_words.specs.Lanes.{OwnsNode, node_of}
-use Rattle.md_words.specs.Place.{desc_status, node_key, node_next, node_value, read_content, read_word, slot_new, slot_old}
+use Rattle.md_words.specs.Place.{desc_status, node_key, node_next, node_value, slot_new, slot_old}
 use Rattle.md_words.specs.PlaceAt.{IsCounted}
 use Rattle.md_words.proofs.Owners.{own_node_exists}
 use Rattle.md_machine.specs.declared.attempt.AttemptId.{AttemptId}
@@ -29,7 +28,6 @@ use Rattle.md_help.proofs.Deciding.{some_after}
 use Rattle.md_nbtc_law.specs.declared.slots.Slot.{Slot}
 use Rattle.md_nbtc_law.specs.Prepared.{EachFrom, IsHeld, IsPrepared, IsPreparedNode, IsRecorded, InstallsFrom, IsWritten, LastOn, LeftLast, LeftThere, StoredOnce, TakenInTurn}
 use Rattle.md_nbtc_law.specs.State.{OwnNode, TxnState, attempt_in, lot_of_lane, lots_since, own_steps, shape_in, writes_in}
-use Rattle.md_nbtc_law.proofs.nodes.GrownPrepared.{each_on}
 use Rattle.md_nbtc_law.proofs.preparing.GoingOn.{own_grows}
 use Rattle.md_nbtc_law.proofs.preparing.Quiet.{earlier_still, every_still, last_longer, last_on, last_still, left_same, once_still, some_was}
 use Rattle.md_nbtc_law.proofs.ready.Lookups.{all_of}
@@ -124,15 +122,13 @@ module _ (t : TxnState) (base : PassView) (s : Step) (after : IsAfter (shape_in 
       new = new;
     })
 
-    -- the step isn't on the status, stores to no read of the attempt and to no node that is left, leaves the words that are recorded and not changed, and
+    -- the step isn't on the status, stores to no node that is left, leaves the words that are recorded and not changed, and
     -- of own nodes all words but a next word that it makes an own one. The slots are those that were there, renewed, and perhaps one
     -- more, and each install that it wins is of one of them
     pub record LeavesRest : Type 0 where
       pub status : s.word ≢ address (shape_in t) (desc_status (attempt_in t).desc)
       pub few : length slots ≤ SET
       pub same_taken : SameTaken t.pass.shares shares
-      pub reads : (i : ℕ) → i < SET → (¬ StoresFor (attempt_in t) (address (shape_in t) (read_word (attempt_in t).desc i)) s)
-          × (¬ StoresFor (attempt_in t) (address (shape_in t) (read_content (attempt_in t).desc i)) s)
       pub nexts : (node : ℕ) → IsNode (shape_in t) node → ¬ StoresFor (attempt_in t) (address (shape_in t) (node_next node)) s
       pub unreplaced : (word : ℕ) → content_replaced (writes_in changed) word ≡ None → content_replaced (writes_in t) word ≡ None
       pub recorded : (r : Read) → Contains t.reads r → IsCounted (shape_in t) r.word → content_replaced (writes_in changed) r.word ≡ None → s.word ≡ r.word → s.before ≡ s.after
@@ -148,14 +144,11 @@ module _ (t : TxnState) (base : PassView) (s : Step) (after : IsAfter (shape_in 
       pub replaced : All (λ (w : Write). first_content t.reads (writes_in changed) w.word ≡ Some w.old) (writes_in changed)
       pub free : (node : ℕ) → IsFreeBy t.pass.view.seen t.pass.view.known node → IsFreeBy base.seen base.known node
 
-    module _ (operates : t.hand.operating ≡ true) (rest : LeavesRest) where
-      recorded_then : (i : ℕ) (r : Read) → i < SET → Contains t.reads r → IsRecorded t i r → IsRecorded changed i r
-      recorded_then i r below c x = record {
+    module _ (between : t.hand.operating ≡ false → (changes ≡ []) × (t.hand.stored ≡ [])) (rest : LeavesRest) where
+      recorded_then : (r : Read) → Contains t.reads r → IsRecorded t r → IsRecorded changed r
+      recorded_then r c x = record {
         counted = x.counted;
         even = x.even;
-        word = stored_on _ _ (rest.reads i below).0 x.word;
-        content = stored_on _ _ (rest.reads i below).1 x.content;
-        shown = more _ x.shown;
         left = λ none. subst (LeftThere (attempt_in t).desc r.word r.content) (sym own_then)
             (left_same (attempt_in t).desc r.word r.content (own_steps t) (s ∷ []) (one (λ y. y.word ≡ r.word → y.before ≡ y.after) (rest.recorded r c x.counted none)) (x.left (rest.unreplaced r.word none)));
       }
@@ -198,11 +191,11 @@ module _ (t : TxnState) (base : PassView) (s : Step) (after : IsAfter (shape_in 
           (v.0, v.1, renewed_installs (attempt_in t) w.0 v.0 v.2 y w.2)
 
       changed_held : IsHeld changed
-      changed_held = let h = prepared.has in let few_reads = h.few_reads in record {
+      changed_held = let h = prepared.has in record {
         of = record { table = h.of.table; shape = h.of.shape };
         held = refl;
         own = (h.own.0, subst (λ l. Contains l h.own.0) (sym lanes_same) h.own.1, h.own.2);
-        between = λ e. absurd (true≢false (sym operates ∙ e));
+        between = between;
         since = record { rest = h.since.rest ++ s ∷ []; is = trail_is ∙ ap (λ l. l ++ s ∷ []) h.since.is ∙ append_assoc t.began.view.trail h.since.rest (s ∷ []) };
         lanes = lanes_same ∙ h.lanes;
         numbers = h.numbers;
@@ -214,7 +207,7 @@ module _ (t : TxnState) (base : PassView) (s : Step) (after : IsAfter (shape_in 
             (rest.nexts node (left_exists node (left_before node left)))) is);
         few_reads = h.few_reads;
         few_writes = rest.few;
-        reads = each_on (IsRecorded t) (IsRecorded changed) 0 t.reads (λ i r below c x. recorded_then i r (omega (arith, below, few_reads)) c x) h.reads;
+        reads = all_of (IsRecorded changed) t.reads (λ r c. recorded_then r c (All-contains (IsRecorded t) t.reads r h.reads c));
         writes = rest.writes;
         recorded_once = h.recorded_once;
         written_once = rest.written_once;

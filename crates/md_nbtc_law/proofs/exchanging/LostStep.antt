@@ -58,10 +58,9 @@ module _ (M : Meaning) (t : TxnState) (prepared : IsPrepared t) (operates : t.ha
       exchange_store : Exchange ≡ Store → ⊥
       exchange_store e = cc
 
-  leaves : LeavesSets t prepared operates it.base it.step it.goes
+  leaves : LeavesSets t prepared it.base it.step it.goes
   leaves = record {
     status = λ e. counted_apart t prepared word counted (sym it.there ∙ e);
-    reads = λ i inside. (not_store _, not_store _);
     nexts = λ node is. not_store _;
     used = λ i below. (not_store _, not_store _);
     recorded = λ r c cr e. still;
@@ -72,10 +71,10 @@ module _ (M : Meaning) (t : TxnState) (prepared : IsPrepared t) (operates : t.ha
   }
 
   abbrev pub stepped : TxnState
-  stepped = stepped_once t prepared operates it.base it.step it.goes
+  stepped = stepped_once t prepared it.base it.step it.goes
 
   pub stepped_prepared : IsPrepared stepped
-  stepped_prepared = once_prepared t prepared operates it.base it.step it.goes leaves
+  stepped_prepared = once_prepared t prepared it.base it.step it.goes leaves
 
   left : LeftThere (attempt_in t).desc word (seen_content from) (own_steps t)
   left = (gave.content (gave.own ∙ none)).left
@@ -119,11 +118,11 @@ module _ (M : Meaning) (t : TxnState) (prepared : IsPrepared t) (operates : t.ha
   lost = record stepped { stop = Some (Conflict shown) }
 
   pub lost_on : GoesOn M t lost
-  lost_on = both_on M t stepped lost (once_on t prepared operates it.base it.step it.goes leaves M (subst (StandsInField M t.field.origin) it.view it.stands))
+  lost_on = both_on M t stepped lost (once_on t prepared it.base it.step it.goes leaves M (subst (StandsInField M t.field.origin) it.view it.stands))
       (halted_on M stepped stepped_prepared (Conflict shown) (conflict_cause stepped shown moved not_alone))
 
   pub lost_given : (other : ℕ) (seen : Seen) → Gave t other seen → Gave lost other seen
-  lost_given other seen g = halted_gave stepped (Conflict shown) other seen (once_gave t prepared operates it.base it.step it.goes leaves other seen (λ _. still) g)
+  lost_given other seen g = halted_gave stepped (Conflict shown) other seen (once_gave t prepared it.base it.step it.goes leaves other seen (λ _. still) g)
 
 -- what contracts see of the transaction then
 module _ (M : Meaning) (field : FieldView) (p : PassState) (began : PassState) (reads : List Read) (slots : List Slot) (stop : Option Stop) (desc serial tag : ℕ) (lots : List Lot) where

@@ -8,7 +8,7 @@ use Rattle.md_words.specs.declared.limits.TheConstants.{SET}
 use Rattle.md_words.specs.declared.shape.Shape.{Shape}
 use Rattle.md_words.specs.Content.{count_of}
 use Rattle.md_words.specs.Layout.{Exists, address, desc_count}
-use Rattle.md_words.specs.Place.{Place, desc_status, node_key, node_next, node_value, read_content, read_word, slot_new, slot_old, slot_word}
+use Rattle.md_words.specs.Place.{Place, desc_status, node_key, node_next, node_value, slot_new, slot_old, slot_word}
 use Rattle.md_words.specs.PlaceAt.{IsCounted}
 use Rattle.md_words.proofs.Owners.{own_desc_exists}
 use Rattle.md_history.specs.declared.stops.Stop.{Stop}
@@ -52,7 +52,7 @@ use Rattle.md_nbtc_law.proofs.exchanging.ChangedPrepared.{IsRenewed, LeavesRest,
 use Rattle.md_nbtc_law.proofs.exchanging.OwnSlots.{any_has, has_slot}
 use Rattle.md_nbtc_law.proofs.exchanging.PushedChanges.{GoesOnWith, pushed_changes}
 use Rattle.md_nbtc_law.proofs.exchanging.Renewed.{all_map, each_map, is_renewed, renew, renewed_write, renewed_writes, same_first, same_old, same_replaced, same_word, same_written, still_once}
-use Rattle.md_nbtc_law.proofs.exchanging.SlotStores.{StoresSlot, is_slot, may_store_slot, nodes_apart, places_apart, slot_apart, slot_uncounted, stores_slot}
+use Rattle.md_nbtc_law.proofs.exchanging.SlotStores.{StoresEntry, is_entry, may_store_entry, nodes_apart, places_apart, entry_apart, entry_uncounted, stores_entry}
 use Rattle.md_nbtc_law.proofs.ready.Lookups.{each_in, one_of}
 
 -- the slot at the place of a word is one of it
@@ -139,7 +139,7 @@ module _ (M : Meaning) (t : TxnState) (prepared : IsPrepared t) (operates : t.ha
   exists = (own_desc_exists (shape_in t) prepared.has.own.0 a_desc prepared.has.own.2, below)
 
   pub may_store_new : to < VALUES → May M t.field.origin (λ pass. store pass (address (shape_in t) (slot_new a_desc place)) to) t.pass.view
-  may_store_new fits = may_store_slot M t prepared (slot_new a_desc place) exists to (λ m admitted pass acts. (refl, fits))
+  may_store_new fits = may_store_entry M t prepared (slot_new a_desc place) exists to (λ m admitted pass acts. (refl, fits))
 
   abbrev pub new_changes : List Change
   new_changes = t.hand.changes ++ (record { word = word; old = from.value; new = to }) ∷ []
@@ -159,8 +159,8 @@ module _ (M : Meaning) (t : TxnState) (prepared : IsPrepared t) (operates : t.ha
         cond-true (is_installed m.installs (attempt_in t) place) (pushed (word_at (shape_of m) m.words (slot_word a_desc place)) (content m (address (shape_in t) (slot_new a_desc place)))) t.hand.changes installed
         ∙ ap (λ n. pushed n (content m (address (shape_in t) (slot_new a_desc place)))) word_is ∙ ap (pushed word) old_is
 
-    pub stores : StoresSlot M t prepared (slot_new a_desc place) exists to new_changes q
-    stores = stores_slot M t prepared (slot_new a_desc place) exists to refl q step new_changes changes_are
+    pub stores : StoresEntry M t prepared (slot_new a_desc place) exists to new_changes q
+    stores = stores_entry M t prepared (slot_new a_desc place) exists to refl q step new_changes changes_are
 
     abbrev s : Step
     s = stores.step
@@ -176,7 +176,7 @@ module _ (M : Meaning) (t : TxnState) (prepared : IsPrepared t) (operates : t.ha
     keeps = is_renewed word to
 
     apart : (counted : ℕ) → IsCounted (shape_in t) counted → s.word ≢ counted
-    apart counted is e = slot_uncounted (shape_in t) (slot_new a_desc place) refl exists counted is (sym stores.there ∙ e)
+    apart counted is e = entry_uncounted (shape_in t) (slot_new a_desc place) refl exists counted is (sym stores.there ∙ e)
 
     same_number : (i : ℕ) (w : Write) → Contains (writes_in t) w → IsWritten t i w → i ≡ place → w ≡ w0
     same_number i w c x e = slot_once (IsWritten t) (λ j v y. y.slot) 0 (writes_in t) prepared.has.writes w w0 c among (x.slot ∙ e ∙ sym slot.3.slot)
@@ -239,11 +239,11 @@ module _ (M : Meaning) (t : TxnState) (prepared : IsPrepared t) (operates : t.ha
     by_writes : (P : List Write → Type 0) → P (map (renew word to) (writes_in t)) → P (writes_in renewed)
     by_writes P p = subst P (sym writes_are) p
 
-    no_store : (p : Place) → is_slot p ≡ false → Exists (shape_in t) p → ¬ StoresFor (attempt_in t) (address (shape_in t) p) s
-    no_store p not there_p st = slot_apart (shape_in t) (slot_new a_desc place) p refl not exists there_p (sym stores.there ∙ st.there)
+    no_store : (p : Place) → is_entry p ≡ false → Exists (shape_in t) p → ¬ StoresFor (attempt_in t) (address (shape_in t) p) s
+    no_store p not there_p st = entry_apart (shape_in t) (slot_new a_desc place) p refl not exists there_p (sym stores.there ∙ st.there)
 
-    off : (p : Place) → is_slot p ≡ false → Exists (shape_in t) p → s.word ≡ address (shape_in t) p → s.before ≡ s.after
-    off p not there_p at = absurd (slot_apart (shape_in t) (slot_new a_desc place) p refl not exists there_p (sym stores.there ∙ at))
+    off : (p : Place) → is_entry p ≡ false → Exists (shape_in t) p → s.word ≡ address (shape_in t) p → s.before ≡ s.after
+    off p not there_p at = absurd (entry_apart (shape_in t) (slot_new a_desc place) p refl not exists there_p (sym stores.there ∙ at))
 
     first_same : (x : ℕ) → first_content t.reads (writes_in renewed) x ≡ first_content t.reads (writes_in t) x
     first_same x = ap (λ ws. first_content t.reads ws x) writes_are ∙ same_first (renew word to) keeps t.reads (writes_in t) x
@@ -256,10 +256,9 @@ module _ (M : Meaning) (t : TxnState) (prepared : IsPrepared t) (operates : t.ha
 
     pub rest : LeavesRest t stores.base s stores.goes new_changes t.pass.shares (map (with_new word to) t.slots) prepared
     rest = record {
-      status = λ at. slot_apart (shape_in t) (slot_new a_desc place) (desc_status a_desc) refl refl exists desc_there (sym stores.there ∙ at);
+      status = λ at. entry_apart (shape_in t) (slot_new a_desc place) (desc_status a_desc) refl refl exists desc_there (sym stores.there ∙ at);
       few = subst (λ n. n ≤ SET) (sym (length-map t.slots (with_new word to))) prepared.has.few_writes;
       same_taken = λ lane. refl;
-      reads = λ i inside. (no_store (read_word a_desc i) refl (desc_there, inside), no_store (read_content a_desc i) refl (desc_there, inside));
       nexts = λ node is. no_store (node_next node) refl is;
       unreplaced = λ x none. sym (same_replaced (renew word to) keeps (writes_in t) x) ∙ sym (ap (λ ws. content_replaced ws x) writes_are) ∙ none;
       recorded = λ r c counted none at. absurd (apart r.word counted at);
@@ -283,7 +282,7 @@ module _ (M : Meaning) (t : TxnState) (prepared : IsPrepared t) (operates : t.ha
         store_install e = cc
 
     pub renewed_prepared : IsPrepared renewed
-    renewed_prepared = changed_prepared t stores.base s stores.goes new_changes t.pass.shares (map (with_new word to) t.slots) prepared operates rest
+    renewed_prepared = changed_prepared t stores.base s stores.goes new_changes t.pass.shares (map (with_new word to) t.slots) prepared (λ e. absurd (true≢false (sym operates ∙ e))) rest
 
     abbrev made : Write → Installed
     made w = record { attempt = attempt_in t; slot = w.slot; word = w.word; old = w.old }
@@ -400,7 +399,7 @@ module _ (M : Meaning) (field : FieldView) (p : PassState) (began : PassState) (
     pub at_slot : Stepped M field.origin (λ x. store x (address (shape_in t) (slot_new (attempt_in t).desc place)) to) p.view pass.view
     at_slot = subst (λ w. Stepped M field.origin (λ x. store x w to) p.view pass.view) there step
 
-    abbrev done : StoresSlot M t prepared (slot_new (attempt_in t).desc place) (exists M t prepared operates word place from to found gave) to (new_changes M t prepared operates word place from to found gave) pass.view
+    abbrev done : StoresEntry M t prepared (slot_new (attempt_in t).desc place) (exists M t prepared operates word place from to found gave) to (new_changes M t prepared operates word place from to found gave) pass.view
     done = stores M t prepared operates word place from to found gave pass.view at_slot
 
     now_is : now ≡ map (with_new word to) slots

@@ -160,10 +160,9 @@ module _ (M : Meaning) (lawful : Lawful M) (t : TxnState) (prepared : IsPrepared
   unwritten : (w : Write) → Contains (writes_in t) w → w.word ≢ word
   unwritten w c e = true≢false (sym (any_has (λ (x : Write). x.word == word) (writes_in t) w c (eq-eqb w.word word e)) ∙ none)
 
-  pub leaves : LeavesSets t prepared operates it.base it.step it.goes
+  pub leaves : LeavesSets t prepared it.base it.step it.goes
   leaves = record {
     status = λ e. counted_apart t prepared word counted (sym it.there ∙ e);
-    reads = λ i inside. (not_store _, not_store _);
     nexts = λ node is. not_store _;
     used = λ i small. (not_store _, not_store _);
     recorded = λ r c cr e. absurd (unrecorded r c (sym e ∙ it.there));
@@ -177,13 +176,13 @@ module _ (M : Meaning) (lawful : Lawful M) (t : TxnState) (prepared : IsPrepared
       exchange_install e = cc
 
   abbrev pub plain : TxnState
-  plain = stepped_once t prepared operates it.base it.step it.goes
+  plain = stepped_once t prepared it.base it.step it.goes
 
   pub plain_on : GoesOn M t plain
-  plain_on = once_on t prepared operates it.base it.step it.goes leaves M (subst (StandsInField M t.field.origin) it.view it.stands)
+  plain_on = once_on t prepared it.base it.step it.goes leaves M (subst (StandsInField M t.field.origin) it.view it.stands)
 
   pub plain_given : (other : ℕ) (seen : Seen) → other ≢ word → Gave t other seen → Gave plain other seen
-  plain_given other seen differ = once_gave t prepared operates it.base it.step it.goes leaves other seen (λ e. absurd (differ (sym e ∙ it.there)))
+  plain_given other seen differ = once_gave t prepared it.base it.step it.goes leaves other seen (λ e. absurd (differ (sym e ∙ it.there)))
 
   abbrev pub seen_then : Seen
   seen_then = record { value = to; count = from.count + 2; own = false }

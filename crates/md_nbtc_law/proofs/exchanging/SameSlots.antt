@@ -1,10 +1,9 @@
 -- A transaction goes on over a step that leaves its slots and the changes of its operation.
-use Rattle.std.proofs.Common.{◌≡◌, ◌≢◌, ◌<◌, ◌∷◌, ℕ, true, [], length, refl, sym, inl, inr, arith}
+use Rattle.std.proofs.Common.{◌≡◌, ◌≢◌, ◌<◌, ◌∷◌, ℕ, [], length, refl, sym, inl, inr, arith}
 use Rattle.std.proofs.lemmas.List.{append-nil, length-map}
 use Rattle.std.specs.List.{Contains}
-use Rattle.md_words.specs.declared.limits.TheConstants.{SET}
 use Rattle.md_words.specs.Layout.{IsNode, address}
-use Rattle.md_words.specs.Place.{Place, desc_status, node_key, node_next, node_value, read_content, read_word, slot_new, slot_old}
+use Rattle.md_words.specs.Place.{Place, desc_status, node_key, node_next, node_value, slot_new, slot_old}
 use Rattle.md_words.specs.PlaceAt.{IsCounted}
 use Rattle.md_machine.specs.declared.attempt.Read.{Read}
 use Rattle.md_machine.specs.declared.attempt.Write.{Write}
@@ -27,17 +26,15 @@ use Rattle.md_nbtc_law.proofs.exchanging.ChangedGoing.{changed_going, changed_la
 use Rattle.md_nbtc_law.proofs.exchanging.ChangedPrepared.{changed, changed_prepared, stored_on, written_then}
 use Rattle.md_nbtc_law.proofs.nodes.GrownPrepared.{each_on}
 
-module _ (t : TxnState) (prepared : IsPrepared t) (operates : t.hand.operating ≡ true) (base : PassView) (s : Step) (after : IsAfter (shape_in t) (s ∷ []) t.pass.view base) where
+module _ (t : TxnState) (prepared : IsPrepared t) (base : PassView) (s : Step) (after : IsAfter (shape_in t) (s ∷ []) t.pass.view base) where
   -- the transaction after the step
   abbrev pub stepped_once : TxnState
   stepped_once = changed t base s after t.hand.changes t.pass.shares t.slots
 
-  -- the step isn't on the status, stores to no read, used slot or node's next word, wins no install, and leaves the words that
+  -- the step isn't on the status, stores to no used slot and no node's next word, wins no install, and leaves the words that
   -- are recorded, changed, or an own node's
   pub record LeavesSets : Type 0 where
     pub status : s.word ≢ address (shape_in t) (desc_status (attempt_in t).desc)
-    pub reads : (i : ℕ) → i < SET → (¬ StoresFor (attempt_in t) (address (shape_in t) (read_word (attempt_in t).desc i)) s)
-        × (¬ StoresFor (attempt_in t) (address (shape_in t) (read_content (attempt_in t).desc i)) s)
     pub nexts : (node : ℕ) → IsNode (shape_in t) node → ¬ StoresFor (attempt_in t) (address (shape_in t) (node_next node)) s
     pub used : (i : ℕ) → i < length t.slots → (¬ StoresFor (attempt_in t) (address (shape_in t) (slot_old (attempt_in t).desc i)) s)
         × (¬ StoresFor (attempt_in t) (address (shape_in t) (slot_new (attempt_in t).desc i)) s)
@@ -50,11 +47,10 @@ module _ (t : TxnState) (prepared : IsPrepared t) (operates : t.hand.operating �
   module _ (leaves : LeavesSets) where
     pub once_prepared : IsPrepared stepped_once
     once_prepared = let h = prepared.has in let many = length-map t.slots (λ (x : Slot). x.write) in
-        changed_prepared t base s after t.hand.changes t.pass.shares t.slots prepared operates (record {
+        changed_prepared t base s after t.hand.changes t.pass.shares t.slots prepared h.between (record {
           status = leaves.status;
           few = h.few_writes;
           same_taken = λ lane. refl;
-          reads = leaves.reads;
           nexts = leaves.nexts;
           unreplaced = λ x none. none;
           recorded = λ r c counted none. leaves.recorded r c counted;

@@ -1,4 +1,4 @@
--- A store to a slot of the transaction's descriptor: when it may be made, and what it leaves of the pass.
+-- A store to a read or a slot of the transaction's descriptor: when it may be made, and what it leaves of the pass.
 use Rattle.std.proofs.Common.{◌≡◌, ◌≢◌, ◌<◌, ◌++◌, ◌∷◌, ℕ, Bool, true, false, List, [], Some, refl, sym, ap, ◌∙◌, subst, ⊎_elim}
 use Rattle.std.proofs.lemmas.Bool.{true≢false}
 use Rattle.std.proofs.lemmas.List.Elements.{All-cons, All-contains, All-nil}
@@ -35,26 +35,28 @@ use Rattle.md_nbtc_law.proofs.exchanging.ChangedPrepared.{changed_view}
 use Rattle.md_nbtc_law.proofs.looks.Loaded.{free_over}
 use Rattle.md_nbtc_law.proofs.nodes.Stores.{unready_there}
 
--- the place is a part of a slot
-abbrev pub is_slot : Place → Bool
-is_slot (slot_word desc j) = true
-is_slot (slot_old desc j) = true
-is_slot (slot_new desc j) = true
-is_slot _ = false
+-- the place is a part of a read or of a slot
+abbrev pub is_entry : Place → Bool
+is_entry (read_word desc i) = true
+is_entry (read_content desc i) = true
+is_entry (slot_word desc j) = true
+is_entry (slot_old desc j) = true
+is_entry (slot_new desc j) = true
+is_entry _ = false
 
 -- two places of a shape lie apart
 pub places_apart : (shape : Shape) (p r : Place) → Exists shape p → Exists shape r → p ≢ r → address shape p ≢ address shape r
 places_apart shape p r here there differ e = differ (sym (place_at-address shape p here) ∙ ap (place_at shape) e ∙ place_at-address shape r there)
 
--- and a slot's parts from each other place
-pub slot_apart : (shape : Shape) (p r : Place) → is_slot p ≡ true → is_slot r ≡ false → Exists shape p → Exists shape r → address shape p ≢ address shape r
-slot_apart shape p r is not here there = places_apart shape p r here there (λ e. true≢false (sym is ∙ ap is_slot e ∙ not))
+-- and such parts from each other place
+pub entry_apart : (shape : Shape) (p r : Place) → is_entry p ≡ true → is_entry r ≡ false → Exists shape p → Exists shape r → address shape p ≢ address shape r
+entry_apart shape p r is not here there = places_apart shape p r here there (λ e. true≢false (sym is ∙ ap is_entry e ∙ not))
 
--- a slot's part is no counted word
-pub slot_uncounted : (shape : Shape) (p : Place) → is_slot p ≡ true → Exists shape p → (word : ℕ) → IsCounted shape word → address shape p ≢ word
-slot_uncounted shape p is here word counted e = true≢false (sym counted.1 ∙ ap is_counted (ap (place_at shape) (sym e) ∙ place_at-address shape p here) ∙ uncounted p is)
+-- such a part is no counted word
+pub entry_uncounted : (shape : Shape) (p : Place) → is_entry p ≡ true → Exists shape p → (word : ℕ) → IsCounted shape word → address shape p ≢ word
+entry_uncounted shape p is here word counted e = true≢false (sym counted.1 ∙ ap is_counted (ap (place_at shape) (sym e) ∙ place_at-address shape p here) ∙ uncounted p is)
   where
-    uncounted : (r : Place) → is_slot r ≡ true → is_counted r ≡ false
+    uncounted : (r : Place) → is_entry r ≡ true → is_counted r ≡ false
     uncounted (slot_word desc j) i = refl
     uncounted (slot_old desc j) i = refl
     uncounted (slot_new desc j) i = refl
@@ -70,7 +72,7 @@ slot_uncounted shape p is here word counted e = true≢false (sym counted.1 ∙ 
     uncounted (read_content desc j) i = refl
 
 -- a store to it stores no node
-stores_none : (place : Place) (nodes : List ℕ) → is_slot place ≡ true → stored_by_store place nodes ≡ nodes
+stores_none : (place : Place) (nodes : List ℕ) → is_entry place ≡ true → stored_by_store place nodes ≡ nodes
 stores_none (slot_word desc j) nodes i = refl
 stores_none (slot_old desc j) nodes i = refl
 stores_none (slot_new desc j) nodes i = refl
@@ -93,9 +95,9 @@ module _ (M : Meaning) (t : TxnState) (prepared : IsPrepared t) (place : Place) 
   here_is m admitted = ap (λ x. place_at x word) admitted.shape ∙ place_at-address (shape_in t) place exists
 
   -- it may be made where the place's own condition is met in each machine
-  pub may_store_slot : ((m : Machine) → Admitted M t.field.origin m → (pass : ℕ) → Acts m pass t.pass.view → MayStoreAt m t.pass.view (attempt_in t) (content m word) value place)
+  pub may_store_entry : ((m : Machine) → Admitted M t.field.origin m → (pass : ℕ) → Acts m pass t.pass.view → MayStoreAt m t.pass.view (attempt_in t) (content m word) value place)
       → May M t.field.origin (λ pass. store pass word value) t.pass.view
-  may_store_slot at m admitted pass acts = (
+  may_store_entry at m admitted pass acts = (
     after_store m pass t.pass.view t.hand word value,
     (
       t.pass.view,
@@ -112,7 +114,7 @@ module _ (M : Meaning) (t : TxnState) (prepared : IsPrepared t) (place : Place) 
   )
 
   -- what it leaves: one step, and these changes
-  pub record StoresSlot (changes : List Change) (q : PassView) : Type 0 where
+  pub record StoresEntry (changes : List Change) (q : PassView) : Type 0 where
     pub base : PassView
     pub step : Step
     pub goes : IsAfter (shape_in t) (step ∷ []) t.pass.view base
@@ -123,9 +125,9 @@ module _ (M : Meaning) (t : TxnState) (prepared : IsPrepared t) (place : Place) 
     pub view : q ≡ changed_view t base step goes changes t.pass.shares t.slots
     pub free : (node : ℕ) → IsFreeBy t.pass.view.seen t.pass.view.known node → IsFreeBy base.seen base.known node
 
-  pub stores_slot : is_slot place ≡ true → (q : PassView) (step : Stepped M t.field.origin (λ pass. store pass word value) t.pass.view q) (changes : List Change)
-      → changes_by_store step.machine (attempt_in t) (content step.machine word) value place t.hand.changes ≡ changes → StoresSlot changes q
-  stores_slot is q step changes changed =
+  pub stores_entry : is_entry place ≡ true → (q : PassView) (step : Stepped M t.field.origin (λ pass. store pass word value) t.pass.view q) (changes : List Change)
+      → changes_by_store step.machine (attempt_in t) (content step.machine word) value place t.hand.changes ≡ changes → StoresEntry changes q
+  stores_entry is q step changes changed =
       let m = step.machine in
       let v = t.pass.view in
       let told = told_store M t.field.origin v q word value step in
@@ -161,12 +163,12 @@ module _ (M : Meaning) (t : TxnState) (prepared : IsPrepared t) (place : Place) 
       }
 
   -- and it is on no word of an own node
-  pub nodes_apart : is_slot place ≡ true → (n : OwnNode) → Contains t.nodes n → (p : Place) → IsWordOf n.node p → word ≢ address (shape_in t) p
+  pub nodes_apart : is_entry place ≡ true → (n : OwnNode) → Contains t.nodes n → (p : Place) → IsWordOf n.node p → word ≢ address (shape_in t) p
   nodes_apart is n c p of =
       let own = (All-contains (IsPreparedNode t) t.nodes n prepared.nodes c).own in
       let node = own_node_exists (shape_in t) own.0 n.node own.2 in
       let Apart : Place → Type 0 = λ r. word ≢ address (shape_in t) r in
       ⊎_elim
-      (λ d. ⊎_elim (λ e. subst Apart (sym e) (slot_apart (shape_in t) place (node_key n.node) is refl exists node))
-      (λ e. subst Apart (sym e) (slot_apart (shape_in t) place (node_value n.node) is refl exists node)) d)
-      (λ e. subst Apart (sym e) (slot_apart (shape_in t) place (node_next n.node) is refl exists node)) of
+      (λ d. ⊎_elim (λ e. subst Apart (sym e) (entry_apart (shape_in t) place (node_key n.node) is refl exists node))
+      (λ e. subst Apart (sym e) (entry_apart (shape_in t) place (node_value n.node) is refl exists node)) d)
+      (λ e. subst Apart (sym e) (entry_apart (shape_in t) place (node_next n.node) is refl exists node)) of

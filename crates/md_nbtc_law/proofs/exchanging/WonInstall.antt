@@ -185,7 +185,6 @@ module _ (M : Meaning) (lawful : Lawful M) (t : TxnState) (prepared : IsPrepared
     status = λ e. counted_apart t prepared word counted (sym it.there ∙ e);
     few = let room = holds.room in let long = length-append t.slots (new_slot t word from to ∷ []) in omega (arith, room, long);
     same_taken = same;
-    reads = λ i inside. (not_store _, not_store _);
     nexts = λ node is. not_store _;
     unreplaced = λ x is. before_push x (sym (ap (λ ws. content_replaced ws x) writes_are ∙ replaced_push (writes_in t) w x) ∙ is);
     recorded = λ r c cr is e. absurd (some_none (sym (ap (λ ws. content_replaced ws r.word) writes_are ∙ replaced_push (writes_in t) w r.word) ∙ is) (sym it.there ∙ e));
@@ -250,7 +249,7 @@ module _ (M : Meaning) (lawful : Lawful M) (t : TxnState) (prepared : IsPrepared
           or_true false = refl
 
   pub installed_prepared : IsPrepared installed
-  installed_prepared = changed_prepared t it.base it.step it.goes now_changes shares now_slots prepared operates rest
+  installed_prepared = changed_prepared t it.base it.step it.goes now_changes shares now_slots prepared (λ e. absurd (true≢false (sym operates ∙ e))) rest
 
   prefix : IsPrefix (installs_in t) (installs_in installed)
   prefix = record { rest = made_of (new_slot t word from to) ∷ []; is = map-append made_of t.slots (new_slot t word from to ∷ []) }

@@ -40,13 +40,10 @@ module _ (t : TxnState) (slots : List Slot) (same : map (λ (s : Slot). s.write)
   abbrev pub reslotted : TxnState
   reslotted = record t { slots = slots }
 
-  recorded_then : (i : ℕ) (r : Read) → IsRecorded t i r → IsRecorded reslotted i r
-  recorded_then i r x = record {
+  recorded_then : (r : Read) → IsRecorded t r → IsRecorded reslotted r
+  recorded_then r x = record {
     counted = x.counted;
     even = x.even;
-    word = x.word;
-    content = x.content;
-    shown = x.shown;
     left = λ none. x.left (ap (λ ws. content_replaced ws r.word) (sym same) ∙ none);
   }
 
@@ -91,7 +88,7 @@ module _ (t : TxnState) (slots : List Slot) (same : map (λ (s : Slot). s.write)
       stored = h.stored;
       few_reads = h.few_reads;
       few_writes = subst (λ n. n ≤ SET) (sym as_many) h.few_writes;
-      reads = each_weaker (IsRecorded t) (IsRecorded reslotted) recorded_then 0 t.reads h.reads;
+      reads = All-weaker (IsRecorded t) (IsRecorded reslotted) recorded_then t.reads h.reads;
       writes = subst (EachFrom (IsWritten reslotted) 0) (sym same) (each_weaker (IsWritten t) (IsWritten reslotted) written_then 0 (writes_in t) h.writes);
       recorded_once = h.recorded_once;
       written_once = subst (AllPairs (λ (w v : Write). w.word ≢ v.word)) (sym same) h.written_once;

@@ -79,7 +79,7 @@ own_rest began trail since = since.is ∙ ap (λ l. began ++ l) (sym (ap (drop (
 pub recorded_left : (t : TxnState) → IsPrepared t → (word : ℕ) → is_written (writes_in t) word ≡ false → (r : Read) → Contains t.reads r → r.word ≡ word
     → (is_even (count_of r.content) ≡ true) × LeftThere (attempt_in t).desc word r.content (own_steps t)
 recorded_left t prepared word none r among there =
-    let x = (each_in (IsRecorded t) 0 t.reads prepared.has.reads r among).3 in
+    let x = All-contains (IsRecorded t) t.reads r prepared.has.reads among in
     let unreplaced : content_replaced (writes_in t) r.word ≡ None =
     ap (content_replaced (writes_in t)) there ∙ none_is _ (sym (written_replaced (writes_in t) word) ∙ none) in
     (x.even, subst (λ w. LeftThere (attempt_in t).desc w r.content (own_steps t)) there (x.left unreplaced))

@@ -30,15 +30,8 @@ module _ (t : TxnState) (prepared : IsPrepared t) (kept_stop : Stop) where
   abbrev pub halted : TxnState
   halted = record t { stop = Some kept_stop }
 
-  recorded_halted : (i : ℕ) (r : Read) → IsRecorded t i r → IsRecorded halted i r
-  recorded_halted i r x = record {
-    counted = x.counted;
-    even = x.even;
-    word = x.word;
-    content = x.content;
-    shown = x.shown;
-    left = x.left;
-  }
+  recorded_halted : (r : Read) → IsRecorded t r → IsRecorded halted r
+  recorded_halted r x = record { counted = x.counted; even = x.even; left = x.left }
 
   written_halted : (i : ℕ) (w : Write) → IsWritten t i w → IsWritten halted i w
   written_halted i w x = record {
@@ -70,7 +63,7 @@ module _ (t : TxnState) (prepared : IsPrepared t) (kept_stop : Stop) where
       stored = h.stored;
       few_reads = h.few_reads;
       few_writes = h.few_writes;
-      reads = each_weaker (IsRecorded t) (IsRecorded halted) recorded_halted 0 t.reads h.reads;
+      reads = All-weaker (IsRecorded t) (IsRecorded halted) recorded_halted t.reads h.reads;
       writes = each_weaker (IsWritten t) (IsWritten halted) written_halted 0 (writes_in t) h.writes;
       recorded_once = h.recorded_once;
       written_once = h.written_once;

@@ -46,7 +46,7 @@ use Rattle.md_nbtc_law.proofs.nodes.TookNode.{took_no_try}
 use Rattle.md_nbtc_law.proofs.preparing.Fronts.{front_after, front_in_hand}
 use Rattle.md_nbtc_law.proofs.preparing.GoingOn.{own_grows}
 use Rattle.md_nbtc_law.proofs.ready.Lookups.{all_of, each_in}
-use Rattle.md_nbtc_law.proofs.recording.ReadMore.{one_place}
+use Rattle.md_nbtc_law.proofs.preparing.StatusApart.{one_place}
 
 -- the transaction with one more node
 abbrev pub with_fresh : TxnState → OwnNode → PassState → List Lot → TxnState
@@ -270,7 +270,7 @@ module _ (M : Meaning) (lawful : Lawful M) (t : TxnState) (cs : List Certificate
         (off (desc_status (attempt_in t).desc) (own_desc_exists (shape_in t) prepared.has.own.0 (attempt_in t).desc prepared.has.own.2) (λ is. ⊎_elim (λ d. ⊎_elim (λ x. cc) (λ x. cc) d) (λ x. cc) is))
         (λ r c. found_apart M lawful t cs going node knows new steps on r.word r.content
         (All-contains (λ (x : Read). first_content t.reads (writes_in t) x.word ≡ Some x.content) t.reads r prepared.has.read c)
-        (each_in (IsRecorded t) 0 t.reads prepared.has.reads r c).3.counted)
+        (All-contains (IsRecorded t) t.reads r prepared.has.reads c).counted)
         (λ w c. found_apart M lawful t cs going node knows new steps on w.word w.old
         (All-contains (λ (x : Write). first_content t.reads (writes_in t) x.word ≡ Some x.old) (writes_in t) w prepared.has.replaced c)
         (each_in (IsWritten t) 0 (writes_in t) prepared.has.writes w c).3.counted)

@@ -21,7 +21,7 @@ use Rattle.md_nbtc_law.specs.State.{TxnState, shape_in}
 use Rattle.md_nbtc_law.proofs.nodes.StoredNodes.{AfterStore, Goes, IsStorable, StoredThree, after_one, left_stands, once, stored_three, with_node}
 use Rattle.md_nbtc_law.proofs.nodes.Stores.{may_store}
 use Rattle.md_nbtc_law.proofs.nodes.Taking.{even, exists, made, storable}
-use Rattle.md_nbtc_law.proofs.recording.ReadMore.{one_place}
+use Rattle.md_nbtc_law.proofs.preparing.StatusApart.{one_place}
 
 trail_of : {v q : PassView} {shape : Shape} {steps : List Step} {h : Hand} → Goes shape steps v h q → q.trail ≡ v.trail ++ steps
 trail_of g = ap (λ (x : PassView). x.trail) g.is ∙ ap (λ (x : PassView). x.trail) g.goes.1

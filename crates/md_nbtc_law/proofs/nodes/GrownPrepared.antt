@@ -8,7 +8,7 @@ use Rattle.md_words.specs.declared.limits.TheConstants.{SET}
 use Rattle.md_words.specs.declared.shape.Shape.{Shape}
 use Rattle.md_words.specs.Lanes.{OwnsNode}
 use Rattle.md_words.specs.Layout.{Exists, IsNode, address, desc_count}
-use Rattle.md_words.specs.Place.{Place, desc_status, node_key, node_next, node_value, read_content, read_word, slot_new, slot_old}
+use Rattle.md_words.specs.Place.{Place, desc_status, node_key, node_next, node_value, slot_new, slot_old}
 use Rattle.md_words.proofs.Owners.{own_desc_exists, own_node_exists}
 use Rattle.md_words.proofs.Places.{place_at-address}
 use Rattle.md_words.specs.PlaceAt.{place_at}
@@ -171,22 +171,13 @@ module _ (t : TxnState) (prepared : IsPrepared t) (operates : t.hand.operating �
         not_slot : IsWordOf n.node (slot_new (attempt_in t).desc i) → ⊥
         not_slot is = ⊎_elim (λ d. ⊎_elim (λ e. cc) (λ e. cc) d) (λ e. cc) is
 
-    recorded_then : (i : ℕ) (r : Read) → i < SET → Contains t.reads r → IsRecorded t i r → IsRecorded now i r
-    recorded_then i r below c x = record {
+    recorded_then : (r : Read) → Contains t.reads r → IsRecorded t r → IsRecorded now r
+    recorded_then r c x = record {
       counted = x.counted;
       even = x.even;
-      word = stored_on (read_word (attempt_in t).desc i) (desc_exists, below) not_word r.word x.word;
-      content = stored_on (read_content (attempt_in t).desc i) (desc_exists, below) not_content r.content x.content;
-      shown = (x.shown.0, subst (λ l. Contains l x.shown.0) (sym own_then) (Contains-append_left (own_steps t) steps x.shown.0 x.shown.1), x.shown.2);
       left = λ none. subst (LeftThere (attempt_in t).desc r.word r.content) (sym own_then)
           (left_same (attempt_in t).desc r.word r.content (own_steps t) steps (recorded r c) (x.left none));
     }
-      where
-        not_word : IsWordOf n.node (read_word (attempt_in t).desc i) → ⊥
-        not_word is = ⊎_elim (λ d. ⊎_elim (λ e. cc) (λ e. cc) d) (λ e. cc) is
-
-        not_content : IsWordOf n.node (read_content (attempt_in t).desc i) → ⊥
-        not_content is = ⊎_elim (λ d. ⊎_elim (λ e. cc) (λ e. cc) d) (λ e. cc) is
 
     prepared_node : (k : OwnNode) → Contains t.nodes k → IsPreparedNode t k → IsPreparedNode now k
     prepared_node k c x =
@@ -224,7 +215,7 @@ module _ (t : TxnState) (prepared : IsPrepared t) (operates : t.hand.operating �
     Differ a b = a.node ≢ b.node
 
     grown_held : IsHeld now
-    grown_held = let h = prepared.has in let few_reads = h.few_reads in let few_writes = h.few_writes in let many = length-map t.slots (λ (s : Slot). s.write) in record {
+    grown_held = let h = prepared.has in let few_writes = h.few_writes in let many = length-map t.slots (λ (s : Slot). s.write) in record {
       of = record { table = h.of.table; shape = h.of.shape };
       held = refl;
       own = (h.own.0, subst (λ l. Contains l h.own.0) (sym lanes_same) h.own.1, h.own.2);
@@ -238,7 +229,7 @@ module _ (t : TxnState) (prepared : IsPrepared t) (operates : t.hand.operating �
       stored = λ node left is. h.stored node (left_was node left).0 (some_was (shape_in t) steps t.pass.view base after _ (no_stored_left node left) is);
       few_reads = h.few_reads;
       few_writes = h.few_writes;
-      reads = each_on (IsRecorded t) (IsRecorded now) 0 t.reads (λ i r below c x. recorded_then i r (omega (arith, below, few_reads)) c x) h.reads;
+      reads = all_of (IsRecorded now) t.reads (λ r c. recorded_then r c (All-contains (IsRecorded t) t.reads r h.reads c));
       writes = each_on (IsWritten t) (IsWritten now) 0 (writes_in t) (λ i w below c x. written_then i w (omega (arith, below, few_writes, many)) c x) h.writes;
       recorded_once = h.recorded_once;
       written_once = h.written_once;

@@ -32,7 +32,7 @@ use Rattle.md_nbtc_law.proofs.looks.Loaded.{loaded_given, loaded_going, loaded_l
 use Rattle.md_nbtc_law.proofs.nodes.Taking.{exists, made, step}
 use Rattle.md_nbtc_law.proofs.preparing.GoingOn.{own_grows}
 use Rattle.md_nbtc_law.proofs.preparing.Later.{later_over}
-use Rattle.md_nbtc_law.proofs.recording.ReadMore.{one_place}
+use Rattle.md_nbtc_law.proofs.preparing.StatusApart.{one_place}
 use Rattle.md_nbtc_law.proofs.recording.Stopping.{stopped_gave}
 
 module _ (M : Meaning) (t : TxnState) (prepared : IsPrepared t) (node : ℕ) (a : PassState) (takes : TakesNode t.pass node a) (free : KnowsFree t.pass.shape t.pass.view node)

@@ -50,15 +50,8 @@ module _ (t : TxnState) (prepared : IsPrepared t) (acts : List Act) (operating :
     last = l.last;
   }
 
-  recorded_turned : (i : ℕ) (r : Read) → IsRecorded t i r → IsRecorded turned i r
-  recorded_turned i r x = record {
-    counted = x.counted;
-    even = x.even;
-    word = stored_turned _ _ x.word;
-    content = stored_turned _ _ x.content;
-    shown = x.shown;
-    left = x.left;
-  }
+  recorded_turned : (r : Read) → IsRecorded t r → IsRecorded turned r
+  recorded_turned r x = record { counted = x.counted; even = x.even; left = x.left }
 
   written_turned : (i : ℕ) (w : Write) → IsWritten t i w → IsWritten turned i w
   written_turned i w x = record {
@@ -90,7 +83,7 @@ module _ (t : TxnState) (prepared : IsPrepared t) (acts : List Act) (operating :
       stored = h.stored;
       few_reads = h.few_reads;
       few_writes = h.few_writes;
-      reads = each_weaker (IsRecorded t) (IsRecorded turned) recorded_turned 0 t.reads h.reads;
+      reads = All-weaker (IsRecorded t) (IsRecorded turned) recorded_turned t.reads h.reads;
       writes = each_weaker (IsWritten t) (IsWritten turned) written_turned 0 (writes_in t) h.writes;
       recorded_once = h.recorded_once;
       written_once = h.written_once;

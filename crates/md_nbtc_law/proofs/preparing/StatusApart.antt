@@ -1,15 +1,20 @@
--- The status word of a transaction's descriptor is no counted word, no data of a node, and not the base word.
+-- Words of different places lie apart: the status word of a transaction's descriptor is no counted word, no data of a node,
+-- and not the base word.
 use Rattle.std.proofs.Common.{◌≡◌, ◌≢◌, ℕ, sym, ap, ◌∙◌, subst, ⊎_elim, IsTrue, arith}
 use Rattle.std.proofs.lemmas.Bool.{false≢true}
 use Rattle.md_words.specs.declared.shape.Shape.{Shape}
-use Rattle.md_words.specs.Layout.{address}
-use Rattle.md_words.specs.Place.{desc_status, is_counted, node_key, node_value}
+use Rattle.md_words.specs.Layout.{Exists, address}
+use Rattle.md_words.specs.Place.{Place, desc_status, is_counted, node_key, node_value}
 use Rattle.md_words.specs.PlaceAt.{IsCounted, place_at}
 use Rattle.md_words.proofs.Owners.{own_desc_exists}
 use Rattle.md_words.proofs.Places.{place_at-address}
 use Rattle.md_machine.specs.Own.{IsDataOf}
 use Rattle.md_nbtc_law.specs.Prepared.{IsPrepared}
 use Rattle.md_nbtc_law.specs.State.{TxnState, attempt_in, shape_in}
+
+-- two places with the same word are one
+pub one_place : (shape : Shape) (p q : Place) → Exists shape p → Exists shape q → address shape p ≡ address shape q → p ≡ q
+one_place shape p q a b same = sym (place_at-address shape p a) ∙ ap (place_at shape) same ∙ place_at-address shape q b
 
 pub base_apart : (shape : Shape) (desc : ℕ) → 0 ≢ address shape (desc_status desc)
 unfolding address

@@ -61,13 +61,10 @@ module _ (t : TxnState) (prepared : IsPrepared t) (q : PassView) (steps : List S
     some_own : (P : Step → Type 0) → SomeStep P (own_steps t) → SomeStep P (own_steps now)
     some_own P (s, i, is) = (s, subst (λ l. Contains l s) (sym own_then) (Contains-append_left (own_steps t) steps s i), is)
 
-    recorded_then : (i : ℕ) (r : Read) → IsRecorded t i r → IsRecorded now i r
-    recorded_then i r x = record {
+    recorded_then : (r : Read) → IsRecorded t r → IsRecorded now r
+    recorded_then r x = record {
       counted = x.counted;
       even = x.even;
-      word = stored_still (shape_in t) steps t.pass.view q after (attempt_in t) _ _ quiet x.word;
-      content = stored_still (shape_in t) steps t.pass.view q after (attempt_in t) _ _ quiet x.content;
-      shown = some_own _ x.shown;
       left = λ none. left_then r.word r.content x.even (still r.word x.counted) (x.left none);
     }
 
@@ -106,7 +103,7 @@ module _ (t : TxnState) (prepared : IsPrepared t) (q : PassView) (steps : List S
       stored = λ node left is. h.stored node (left_before node left) (some_was (shape_in t) steps t.pass.view q after _ (no_store _) is);
       few_reads = h.few_reads;
       few_writes = h.few_writes;
-      reads = each_weaker (IsRecorded t) (IsRecorded now) recorded_then 0 t.reads h.reads;
+      reads = All-weaker (IsRecorded t) (IsRecorded now) recorded_then t.reads h.reads;
       writes = each_weaker (IsWritten t) (IsWritten now) written_then 0 (writes_in t) h.writes;
       recorded_once = h.recorded_once;
       written_once = h.written_once;

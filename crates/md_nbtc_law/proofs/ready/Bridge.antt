@@ -30,9 +30,10 @@ use Rattle.md_machine.proofs.chain.Values.{installed_spot}
 use Rattle.md_machine.proofs.events.Attempts.{attempt_same, same_from, same_parts}
 use Rattle.md_machine.proofs.lists.Rising.{filter_in, in_drop, in_filter, in_map, map_in}
 use Rattle.md_nbtc_law.specs.declared.slots.Slot.{Slot}
-use Rattle.md_nbtc_law.specs.Prepared.{EachFrom, InstallsFrom, IsHeld, IsRecorded, IsWritten}
-use Rattle.md_nbtc_law.specs.State.{TxnState, attempt_in, own_steps, shape_in, writes_in}
+use Rattle.md_nbtc_law.specs.Prepared.{EachFrom, InstallsFrom, IsHeld, IsStoredAt, IsWritten, StoresReads}
+use Rattle.md_nbtc_law.specs.State.{TxnState, attempt_in, own_steps, shape_in, unwritten_reads, writes_in}
 use Rattle.md_nbtc_law.proofs.ready.Lookups.{SameRead, all_of, each_at, each_in, same_read, same_replaced, same_written}
+use Rattle.md_nbtc_law.proofs.ready.Unwritten.{few_unwritten, same_unwritten}
 
 same_write : (w v : Write) → w.slot ≡ v.slot → w.word ≡ v.word → w.old ≡ v.old → w.new ≡ v.new → w ≡ v
 same_write w v slot word old new =
@@ -68,35 +69,36 @@ module _ (t : TxnState) (held : IsHeld t) (m : Machine) (k : IsKept m) (shape : 
       (subst (IsEntryWord a.desc) (sym (place_at-address (shape_of m) place exists)) is)
       (subst (λ s. LastStored t.pass.view a (address s place) word) (sym shape) last)
 
-  read_stands : (i : ℕ) (r : Read) → i < SET → IsRecorded t i r → SameRead (read_now m a.desc i) r
+  read_stands : (i : ℕ) (r : Read) → i < SET → IsStoredAt t i r → SameRead (read_now m a.desc i) r
   read_stands i r few is = record {
     word = stands (read_word a.desc i) (desc_exists, few) refl r.word is.word;
     content = stands (read_content a.desc i) (desc_exists, few) refl r.content is.content;
   }
 
-  -- the reads of its descriptor are what it recorded
-  reads_from : (i : ℕ) (rs : List Read) → EachFrom (IsRecorded t) i rs → i + length rs ≤ SET
+  reads_from : (i : ℕ) (rs : List Read) → EachFrom (IsStoredAt t) i rs → i + length rs ≤ SET
       → AllZip SameRead (map (read_now m a.desc) (range_with_len i (length rs))) rs
   reads_from i [] each few = tt
   reads_from i (r ∷ rs) each few =
       (read_stands i r (omega (arith, few)) each.0, reads_from (i + 1) rs each.1 (omega (arith, few)))
 
-  pub reads_stand : AllZip SameRead (reads_now m a.desc (length t.reads)) t.reads
-  reads_stand = let few = held.few_reads in reads_from 0 t.reads held.reads (omega (arith, few))
+  -- the reads of its descriptor are what it recorded of words that it doesn't write
+  module _ (stored : StoresReads t) where
+    pub reads_stand : AllZip SameRead (reads_now m a.desc (length (unwritten_reads t))) (unwritten_reads t)
+    reads_stand = let few = few_unwritten t held in reads_from 0 (unwritten_reads t) stored (omega (arith, few))
 
-  pub reads_stored : (i : ℕ) → i < length t.reads → IsStoredRead m t.pass.view a i
-  reads_stored i below =
-      let few = held.few_reads in
-      let found = each_at (IsRecorded t) 0 t.reads held.reads i (omega arith) (omega (arith, below)) in
-      let same = read_stands i found.0 (omega (arith, below, few)) found.2 in
-      let stored : (place : Place) (word : ℕ) → word_at (shape_of m) m.words place ≡ word → LastStored t.pass.view a (address (shape_in t) place) word
-      → LastStored t.pass.view a (address (shape_of m) place) (word_at (shape_of m) m.words place)
-      = λ place word is last. subst (λ v. LastStored t.pass.view a (address (shape_of m) place) v) (sym is)
-      (subst (λ s. LastStored t.pass.view a (address s place) word) (sym shape) last) in
-      record {
-        word = stored (read_word a.desc i) found.0.word same.word found.2.word;
-        content = stored (read_content a.desc i) found.0.content same.content found.2.content;
-      }
+    pub reads_stored : (i : ℕ) → i < length (unwritten_reads t) → IsStoredRead m t.pass.view a i
+    reads_stored i below =
+        let few = few_unwritten t held in
+        let found = each_at (IsStoredAt t) 0 (unwritten_reads t) stored i (omega arith) (omega (arith, below)) in
+        let same = read_stands i found.0 (omega (arith, below, few)) found.2 in
+        let there : (place : Place) (word : ℕ) → word_at (shape_of m) m.words place ≡ word → LastStored t.pass.view a (address (shape_in t) place) word
+        → LastStored t.pass.view a (address (shape_of m) place) (word_at (shape_of m) m.words place)
+        = λ place word is last. subst (λ v. LastStored t.pass.view a (address (shape_of m) place) v) (sym is)
+        (subst (λ s. LastStored t.pass.view a (address s place) word) (sym shape) last) in
+        record {
+          word = there (read_word a.desc i) found.0.word same.word found.2.word;
+          content = there (read_content a.desc i) found.0.content same.content found.2.content;
+        }
 
   -- the place of a slot is its number
   pub slot_at : (w : Write) → Contains (writes_in t) w → (i : ℕ) × (i < SET) × IsWritten t i w
@@ -167,9 +169,10 @@ module _ (t : TxnState) (held : IsHeld t) (m : Machine) (k : IsKept m) (shape : 
   pub same_written_now : (word : ℕ) → is_written (writes_now m a) word ≡ is_written (writes_in t) word
   same_written_now = same_written (writes_now m a) (writes_in t) writes_to writes_back held.written_once
 
-  pub same_first : (word : ℕ) → first_content (reads_now m a.desc (length t.reads)) (writes_now m a) word ≡ first_content t.reads (writes_in t) word
-  same_first word = ap (λ o. or_else o (content_replaced (writes_now m a) word)) (same_read (reads_now m a.desc (length t.reads)) t.reads reads_stand word)
-      ∙ ap (or_else (content_read t.reads word)) (same_replaced_now word)
+  pub same_first : StoresReads t → (word : ℕ) → first_content (reads_now m a.desc (length (unwritten_reads t))) (writes_now m a) word ≡ first_content t.reads (writes_in t) word
+  same_first stored word = ap (λ o. or_else o (content_replaced (writes_now m a) word))
+      (same_read (reads_now m a.desc (length (unwritten_reads t))) (unwritten_reads t) (reads_stand stored) word)
+      ∙ ap (or_else (content_read (unwritten_reads t) word)) (same_replaced_now word) ∙ same_unwritten t held word
 
   -- what holds of each slot that was written is so of each that the machine has
   pub all_written : (P : Write → Type 0) → All P (writes_in t) → All P (writes_now m a)

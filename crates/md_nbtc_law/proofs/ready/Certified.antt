@@ -2,7 +2,7 @@
 -- pass stands so.
 use Rattle.std.proofs.Common.{◌≡◌, ◌≢◌, ◌==◌, ◌++◌, ℕ, Bool, true, false, List, map, length, refl, sym, ap, ◌∙◌, subst, ⊎_elim, Some, is_some, append-nil}
 use Rattle.std.specs.Prelude.{option_map, unwrap_or}
-use Rattle.std.proofs.lemmas.List.Elements.{All-weaker}
+use Rattle.std.proofs.lemmas.List.Elements.{All-contains, All-weaker}
 use Rattle.std.specs.List.{All, AllPairs, Contains, list_any}
 use Rattle.md_words.specs.Content.{value_of}
 use Rattle.md_words.specs.Layout.{IsNode, address}
@@ -27,11 +27,13 @@ use Rattle.md_rule.specs.Admitted.{Admitted}
 use Rattle.md_nbtc_law.specs.Course.{IsStoredNode, last_new, stored_words}
 use Rattle.md_nbtc_law.specs.Going.{IsGoing}
 use Rattle.md_nbtc_law.specs.Known.{found_by}
+use Rattle.md_nbtc_law.specs.Prepared.{StoresReads}
 use Rattle.md_nbtc_law.specs.Seeing.{MayChange}
-use Rattle.md_nbtc_law.specs.State.{OwnNode, TxnState, attempt_in, writes_in}
+use Rattle.md_nbtc_law.specs.State.{OwnNode, TxnState, attempt_in, unwritten_reads, writes_in}
 use Rattle.md_nbtc_law.proofs.ready.Bridge.{all_written, reads_stand, same_first, same_written_now}
-use Rattle.md_nbtc_law.proofs.ready.Lookups.{SameRead, zip_all}
+use Rattle.md_nbtc_law.proofs.ready.Lookups.{SameRead, all_of, zip_all}
 use Rattle.md_nbtc_law.proofs.ready.Nodes.{kept, known_here, next_stands, own_node, prepared_node, unplaced_node}
+use Rattle.md_nbtc_law.proofs.ready.Unwritten.{one_of_reads}
 use Rattle.md_nbtc_law.proofs.ready.Standing.{all_by, new_placed, pairs_map, pairs_of_map, stays_placed}
 
 module _ (M : Meaning) (lawful : Lawful M) (t : TxnState) (cs : List Certificate) (going : IsGoing M t cs) (idle : t.hand.operating ≡ false) where
@@ -52,15 +54,15 @@ module _ (M : Meaning) (lawful : Lawful M) (t : TxnState) (cs : List Certificate
   own_new n c = in_map (λ (x : NewNode). x.node) (all_nodes cs) n.node
       (subst (λ l. Contains l n.node) nodes_are (map_in (λ (x : OwnNode). x.node) t.nodes n c))
 
-  module _ (m : Machine) (admitted : Admitted M t.field.origin m) (pass : ℕ) (acts : Acts m pass t.pass.view) where
+  module _ (stored : StoresReads t) (m : Machine) (admitted : Admitted M t.field.origin m) (pass : ℕ) (acts : Acts m pass t.pass.view) where
     abbrev reads : List Read
-    reads = reads_now m (attempt_in t).desc (length t.reads)
+    reads = reads_now m (attempt_in t).desc (length (unwritten_reads t))
 
     abbrev writes : List Write
     writes = writes_now m (attempt_in t)
 
     kept_first : (word : ℕ) → first_content reads writes word ≡ first_content t.reads (writes_in t) word
-    kept_first word = same_first t going.prepared.has m (kept M lawful t cs going m admitted pass acts) admitted.shape pass acts.at word
+    kept_first word = same_first t going.prepared.has m (kept M lawful t cs going m admitted pass acts) admitted.shape pass acts.at stored word
 
     pub every_write : (P : Write → Type 0) → All P (writes_in t) → All P writes
     every_write P all = all_written t going.prepared.has m (kept M lawful t cs going m admitted pass acts) admitted.shape pass acts.at P all
@@ -116,8 +118,10 @@ module _ (M : Meaning) (lawful : Lawful M) (t : TxnState) (cs : List Certificate
       tidies = subst (λ s. All (λ (c : Certificate). All (M.tidies s) c.tidy) cs) shape going.course.tidies;
       read = zip_all SameRead (λ r. first_content reads writes r.word ≡ Some r.content) (λ r. first_content t.reads (writes_in t) r.word ≡ Some r.content)
           (λ x y same is. kept_first x.word ∙ ap (first_content t.reads (writes_in t)) same.word ∙ is ∙ ap (λ n. Some n) (sym same.content))
-          reads t.reads
-          (reads_stand t going.prepared.has m (kept M lawful t cs going m admitted pass acts) admitted.shape pass acts.at) going.prepared.has.read;
+          reads (unwritten_reads t)
+          (reads_stand t going.prepared.has m (kept M lawful t cs going m admitted pass acts) admitted.shape pass acts.at stored)
+          (all_of (λ (r : Read). first_content t.reads (writes_in t) r.word ≡ Some r.content) (unwritten_reads t)
+          (λ r c. All-contains (λ (x : Read). first_content t.reads (writes_in t) x.word ≡ Some x.content) t.reads r going.prepared.has.read (one_of_reads t r c)));
       replaced = every_write (λ w. first_content reads writes w.word ≡ Some w.old)
           (All-weaker (λ (w : Write). first_content t.reads (writes_in t) w.word ≡ Some w.old) (λ w. first_content reads writes w.word ≡ Some w.old)
           (λ w is. kept_first w.word ∙ is) (writes_in t) going.prepared.has.replaced);

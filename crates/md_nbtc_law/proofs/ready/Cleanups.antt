@@ -31,8 +31,9 @@ use Rattle.md_nbtc_law.specs.Cleaning.{IsFactLater, IsKeptCleanup, IsPlacedFor, 
 use Rattle.md_nbtc_law.specs.Ending.{IsFactThen, IsPlacedForThen, IsPlacedThen, IsReady, IsReadyCleanup, Readies, TidiesThen}
 use Rattle.md_nbtc_law.specs.Going.{IsGoing}
 use Rattle.md_nbtc_law.specs.Known.{KnowsPlaced}
+use Rattle.md_nbtc_law.specs.Prepared.{StoresReads}
 use Rattle.md_nbtc_law.specs.Seeing.{IsNextOf, MayChange}
-use Rattle.md_nbtc_law.specs.State.{TxnState, attempt_in, shape_in}
+use Rattle.md_nbtc_law.specs.State.{TxnState, attempt_in, shape_in, unwritten_reads}
 use Rattle.md_nbtc_law.proofs.ready.Certified.{own_new}
 use Rattle.md_nbtc_law.proofs.ready.Nodes.{known_least}
 use Rattle.md_nbtc_law.proofs.ready.Won.{certificates, now_ready, won_entry, won_last, won_ready, won_view}
@@ -68,26 +69,26 @@ always_has m node s is = ⊎_elim
     (λ kept. Contains-append_right m.opening.placed (kept_nodes m.history (least m.fates)) _ (kept_has m.history (least m.fates) node s kept))
     (either_some (structure_in m.opening.placed node) (kept_structure m.history (least m.fates) node) s is)
 
-module _ (M : Meaning) (lawful : Lawful M) (t : TxnState) (cs : List Certificate) (going : IsGoing M t cs) (idle : t.hand.operating ≡ false) (q : PassView)
-    (step : SteppedFrom M t.field.origin (λ pass. ready pass (length t.reads)) (address (shape_in t) (desc_status (attempt_in t).desc))
+module _ (M : Meaning) (lawful : Lawful M) (t : TxnState) (cs : List Certificate) (going : IsGoing M t cs) (stored : StoresReads t) (idle : t.hand.operating ≡ false) (q : PassView)
+    (step : SteppedFrom M t.field.origin (λ pass. ready pass (length (unwritten_reads t))) (address (shape_in t) (desc_status (attempt_in t).desc))
     (unready_word (attempt_in t)) t.pass.view q)
     -- the entry's certificates are such as the transaction was under way by
-    (by : IsGoing M t (certificates M lawful t cs going q step)) where
+    (by : IsGoing M t (certificates M lawful t cs going stored q step)) where
   abbrev u : TxnState
-  u = now_ready M lawful t cs going q step
+  u = now_ready M lawful t cs going stored q step
 
   abbrev ds : List Certificate
-  ds = certificates M lawful t cs going q step
+  ds = certificates M lawful t cs going stored q step
 
   abbrev Then : (node : ℕ) → Structure → Type 0
-  Then node s = IsPlacedThen u (won_entry M lawful t cs going q step) node s
+  Then node s = IsPlacedThen u (won_entry M lawful t cs going stored q step) node s
 
   -- what was known to be placed is noted
   noted_then : (node : ℕ) (s : Structure) → KnowsPlaced M t node s → Then node s
   noted_then node s known =
       let m = step.0.machine in
       let now = known_least M lawful t cs going m step.0.admitted step.0.pass step.0.acts (λ v h. h.placed node ≡ Some s) known in
-      inl (subst (λ l. Contains l (record { node = node; structure = s })) (sym (ap (λ (x : PassView). x.placed) (won_view M lawful t cs going q step)))
+      inl (subst (λ l. Contains l (record { node = node; structure = s })) (sym (ap (λ (x : PassView). x.placed) (won_view M lawful t cs going stored q step)))
       (Contains-append_right t.pass.view.placed (always_nodes m) _ (always_has m node s now)))
 
   placed_then : (node : ℕ) (s : Structure) → IsPlacedIn M t ds node s → Then node s
@@ -104,14 +105,14 @@ module _ (M : Meaning) (lawful : Lawful M) (t : TxnState) (cs : List Certificate
       (new.0.structure, inr (subst (λ n. Contains (placed_by ds) (made n)) (new.2 ∙ own.2) (map_in of (all_nodes ds) new.0 new.1))))
       (may node is)
 
-  for_then : (c : Cleanup) → IsPlacedFor M t ds c → IsPlacedForThen u (won_entry M lawful t cs going q step) c
+  for_then : (c : Cleanup) → IsPlacedFor M t ds c → IsPlacedForThen u (won_entry M lawful t cs going stored q step) c
   for_then (Unlink prev node) p = (p.0, p.1, placed_then node (Bucket p.0 p.1) p.2)
   for_then (MoveTail tail from to) p = (p.0, placed_then from (Queue p.0) p.1)
 
-  fact_then : (node next : ℕ) (f : Fact) → IsFactLater M t ds node next f → IsFactThen u (won_entry M lawful t cs going q step) node next f
+  fact_then : (node next : ℕ) (f : Fact) → IsFactLater M t ds node next f → IsFactThen u (won_entry M lawful t cs going stored q step) node next f
   fact_then node next f is = record { placed = placed_then f.node f.structure is.placed; key = is.key; value = is.value; of_next = is.of_next }
 
-  tidies_then : (c : Cleanup) (next : ℕ) → TidiesLater M t ds c next → TidiesThen M u (won_entry M lawful t cs going q step) c next
+  tidies_then : (c : Cleanup) (next : ℕ) → TidiesLater M t ds c next → TidiesThen M u (won_entry M lawful t cs going stored q step) c next
   tidies_then c next x = record {
     tidy = x.tidy;
     bare = x.bare;
@@ -120,7 +121,7 @@ module _ (M : Meaning) (lawful : Lawful M) (t : TxnState) (cs : List Certificate
     facts = All-weaker _ _ (fact_then (cleanup_node c) next) x.tidy.facts x.facts;
   }
 
-  cleanup_then : (w : Write) (c : Cleanup) → IsKeptCleanup M t ds w c → IsReadyCleanup M u (won_entry M lawful t cs going q step) w c
+  cleanup_then : (w : Write) (c : Cleanup) → IsKeptCleanup M t ds w c → IsReadyCleanup M u (won_entry M lawful t cs going stored q step) w c
   cleanup_then w c k = record {
     exists = k.exists;
     word = k.word;
@@ -131,15 +132,15 @@ module _ (M : Meaning) (lawful : Lawful M) (t : TxnState) (cs : List Certificate
     tidies = λ next fits. tidies_then c next (k.may.tidies next fits);
   }
 
-  pub won_cleanups : All (λ (s : Slot). IfSome s.cleanup (IsReadyCleanup M u (won_entry M lawful t cs going q step) s.write)) t.slots
+  pub won_cleanups : All (λ (s : Slot). IfSome s.cleanup (IsReadyCleanup M u (won_entry M lawful t cs going stored q step) s.write)) t.slots
   won_cleanups = All-weaker _ _ (λ (s : Slot) kept. IfSome_then s.cleanup kept (cleanup_then s.write)) t.slots by.cleanups
 
 -- so a transaction whose last entry is by certificates by which it was under way is ready
-module _ (M : Meaning) (lawful : Lawful M) (t : TxnState) (cs : List Certificate) (going : IsGoing M t cs) (idle : t.hand.operating ≡ false) (q : PassView)
-    (step : SteppedFrom M t.field.origin (λ pass. ready pass (length t.reads)) (address (shape_in t) (desc_status (attempt_in t).desc))
+module _ (M : Meaning) (lawful : Lawful M) (t : TxnState) (cs : List Certificate) (going : IsGoing M t cs) (stored : StoresReads t) (idle : t.hand.operating ≡ false) (q : PassView)
+    (step : SteppedFrom M t.field.origin (λ pass. ready pass (length (unwritten_reads t))) (address (shape_in t) (desc_status (attempt_in t).desc))
     (unready_word (attempt_in t)) t.pass.view q)
     (entered : (before : List HistoryEntry) × (entry : HistoryEntry) × (q.seen ≡ before ++ entry ∷ []) × IsGoing M t entry.certificates) where
-  pub became_ready : (r : IsReady M (now_ready M lawful t cs going q step)) × Readies t (now_ready M lawful t cs going q step) r.entry
+  pub became_ready : (r : IsReady M (now_ready M lawful t cs going stored q step)) × Readies t (now_ready M lawful t cs going stored q step) r.entry
   became_ready =
-      let by = won_last M lawful t cs going q step (λ e. IsGoing M t e.certificates) entered.0 entered.1 entered.2 entered.3 in
-      won_ready M lawful t cs going q step (won_cleanups M lawful t cs going idle q step by)
+      let by = won_last M lawful t cs going stored q step (λ e. IsGoing M t e.certificates) entered.0 entered.1 entered.2 entered.3 in
+      won_ready M lawful t cs going stored q step (won_cleanups M lawful t cs going stored idle q step by)

@@ -79,8 +79,8 @@ whole (x ∷ xs) ys = ap (λ l. x ∷ l) (whole xs ys)
 pub began_then : (began trail : List Step) → IsPrefix began trail → trail ≡ began ++ drop (length began) trail
 began_then began trail p = p.is ∙ sym (whole began p.rest) ∙ ap (λ l. began ++ drop (length began) l) (sym p.is)
 
-module _ (M : Meaning) (t : TxnState) (prepared : IsPrepared t) (q : PassView) (found : ℕ) (apart : found ≢ unready_word (attempt_in t))
-    (step : SteppedFrom M t.field.origin (λ pass. ready pass (length t.reads)) (address (shape_in t) (desc_status (attempt_in t).desc)) found t.pass.view q) where
+module _ (M : Meaning) (t : TxnState) (prepared : IsPrepared t) (q : PassView) (found : ℕ) (apart : found ≢ unready_word (attempt_in t)) (count : ℕ)
+    (step : SteppedFrom M t.field.origin (λ pass. ready pass count) (address (shape_in t) (desc_status (attempt_in t).desc)) found t.pass.view q) where
   abbrev a : AttemptId
   a = attempt_in t
 
@@ -126,9 +126,8 @@ module _ (M : Meaning) (t : TxnState) (prepared : IsPrepared t) (q : PassView) (
   -- the step changed nothing
   pub lost_made : Made (shape_in t) Ready status found found t.pass.view q
   lost_made =
-      let told = told_ready M t.field.origin t.pass.view q (length t.reads) step.0 in
+      let told = told_ready M t.field.origin t.pass.view q count step.0 in
       let cs = told.1 in
-      let count = length t.reads in
       let hand : told.0 ≡ t.hand = some_same told.0 t.hand (sym told.2.held ∙ prepared.has.held) in
       let at_word = address (shape_of m) (desc_status a.desc) in
       let after = exchanged m t.pass.view Ready at_word (unready_word a) (ready_word a count) in
@@ -137,7 +136,7 @@ module _ (M : Meaning) (t : TxnState) (prepared : IsPrepared t) (q : PassView) (
       ∙ cond-false (wins m at_word (unready_word a)) (record after { seen = history_after_ready m t.hand cs count; known = fates_after_ready m }) after lost in
       lost_exchange M t.field.origin m Ready status (unready_word a) (ready_word a count) found t.pass.view q step.0.admitted.shape step.1 apart
       (subst (λ (s : Shape). q ≡ exchanged m t.pass.view Ready (address s (desc_status a.desc)) (unready_word a) (ready_word a count)) step.0.admitted.shape view)
-      (known_stays M t.field.origin (λ pass. ready pass (length t.reads)) t.pass.view q step.0)
+      (known_stays M t.field.origin (λ pass. ready pass count) t.pass.view q step.0)
 
   abbrev pub refused : PassState
   refused = record t.pass { view = q }

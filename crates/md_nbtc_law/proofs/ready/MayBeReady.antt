@@ -25,12 +25,13 @@ use Rattle.md_rule.specs.Kept.{StoredNoneLeft}
 use Rattle.md_rule.specs.Admitted.{Admitted}
 use Rattle.md_rule.specs.InHand.{HoldsUnready}
 use Rattle.md_nbtc_law.specs.Going.{IsGoing}
-use Rattle.md_nbtc_law.specs.Prepared.{InstallsFrom, IsHeld, IsRecorded, LeftThere}
-use Rattle.md_nbtc_law.specs.State.{TxnState, attempt_in, own_steps, shape_in, writes_in}
+use Rattle.md_nbtc_law.specs.Prepared.{InstallsFrom, IsHeld, IsRecorded, LeftThere, StoresReads}
+use Rattle.md_nbtc_law.specs.State.{TxnState, attempt_in, own_steps, shape_in, unwritten_reads, writes_in}
 use Rattle.md_nbtc_law.proofs.ready.Bridge.{own_desc, own_step, reads_stand, reads_stored, slot_at}
 use Rattle.md_nbtc_law.proofs.ready.Certified.{certified, every_write}
-use Rattle.md_nbtc_law.proofs.ready.Lookups.{SameRead, all_of, each_in, replaced_found, zip_all}
+use Rattle.md_nbtc_law.proofs.ready.Lookups.{SameRead, all_of, replaced_found, zip_all}
 use Rattle.md_nbtc_law.proofs.ready.Nodes.{kept}
+use Rattle.md_nbtc_law.proofs.ready.Unwritten.{few_unwritten, one_of_reads}
 
 -- what a step left there, it met
 pub left_met : (t : TxnState) (desc word held : ℕ) → LeftThere desc word held (own_steps t) → SomeStepOf t.pass.view (Meets word held)
@@ -40,10 +41,10 @@ left_met t desc word held left = own_step t (Meets word held)
 module _ (t : TxnState) (held : IsHeld t) where
   module _ (m : Machine) (kept : IsKept m) (shape : shape_of m ≡ shape_in t) (pass : ℕ) (at : IsAt m pass t.pass.view) where
     -- a recorded content was met: it was left there, or a slot replaced it
-    recorded_met : (i : ℕ) (r : Read) → Contains t.reads r → IsRecorded t i r → (o : Option ℕ) → content_replaced (writes_in t) r.word ≡ o
+    recorded_met : (r : Read) → Contains t.reads r → IsRecorded t r → (o : Option ℕ) → content_replaced (writes_in t) r.word ≡ o
         → SomeStepOf t.pass.view (Meets r.word r.content)
-    recorded_met i r c is None none = left_met t (attempt_in t).desc r.word r.content (is.left none)
-    recorded_met i r c is (Some old) replaced =
+    recorded_met r c is None none = left_met t (attempt_in t).desc r.word r.content (is.left none)
+    recorded_met r c is (Some old) replaced =
         let slot = replaced_found (writes_in t) r.word old replaced in
         let w = slot.0 in
         let First : Write → Type 0 = λ x. first_content t.reads (writes_in t) x.word ≡ Some x.old in
@@ -64,11 +65,11 @@ module _ (t : TxnState) (held : IsHeld t) where
 
     may_record : (r : Read) → Contains t.reads r → MayRecord m t.pass.view r
     may_record r c =
-        let found = each_in (IsRecorded t) 0 t.reads held.reads r c in
+        let found = All-contains (IsRecorded t) t.reads r held.reads c in
         record {
-          counted = subst (λ s. IsCounted s r.word) (sym shape) found.3.counted;
-          even = found.3.even;
-          met = recorded_met found.0 r c found.3 (content_replaced (writes_in t) r.word) refl;
+          counted = subst (λ s. IsCounted s r.word) (sym shape) found.counted;
+          even = found.even;
+          met = recorded_met r c found (content_replaced (writes_in t) r.word) refl;
         }
 
     same_recorded : (x y : Read) → SameRead x y → MayRecord m t.pass.view y → MayRecord m t.pass.view x
@@ -94,29 +95,29 @@ module _ (t : TxnState) (held : IsHeld t) where
       (subst (λ (x : Hand). SomeStepOf t.pass.view (StoresFor x.attempt (address (shape_in t) (node_next node)))) (some_same h t.hand (sym is ∙ held.held))
       (subst (λ s. SomeStepOf t.pass.view (StoresFor h.attempt (address s (node_next node)))) held.of.shape some))
 
-module _ (M : Meaning) (lawful : Lawful M) (t : TxnState) (cs : List Certificate) (going : IsGoing M t cs) (idle : t.hand.operating ≡ false) where
+module _ (M : Meaning) (lawful : Lawful M) (t : TxnState) (cs : List Certificate) (going : IsGoing M t cs) (idle : t.hand.operating ≡ false) (stored : StoresReads t) where
   -- the condition of the ready step holds in each machine in which the pass stands so
   pub may_ready : (m : Machine) → Admitted M t.field.origin m → (pass : ℕ) → Acts m pass t.pass.view
-      → MayReady M m t.pass.view t.hand cs (length t.reads)
+      → MayReady M m t.pass.view t.hand cs (length (unwritten_reads t))
   may_ready m admitted pass acts =
       let has = going.prepared.has in
       let k = kept M lawful t cs going m admitted pass acts in
       record {
         held = has.held;
         own = own_desc t has m k admitted.shape pass acts.at;
-        few = has.few_reads;
-        stored = reads_stored t has m k admitted.shape pass acts.at;
-        recorded = zip_all SameRead (MayRecord m t.pass.view) (MayRecord m t.pass.view) (same_recorded t has m k admitted.shape pass acts.at) _ t.reads
-            (reads_stand t has m k admitted.shape pass acts.at)
-            (all_of (MayRecord m t.pass.view) t.reads (may_record t has m k admitted.shape pass acts.at));
-        installed = every_write M lawful t cs going idle m admitted pass acts (λ w. SomeStepOf t.pass.view (InstallsFor (attempt_in t) w))
+        few = few_unwritten t has;
+        stored = reads_stored t has m k admitted.shape pass acts.at stored;
+        recorded = zip_all SameRead (MayRecord m t.pass.view) (MayRecord m t.pass.view) (same_recorded t has m k admitted.shape pass acts.at) _ (unwritten_reads t)
+            (reads_stand t has m k admitted.shape pass acts.at stored)
+            (all_of (MayRecord m t.pass.view) (unwritten_reads t) (λ r c. may_record t has m k admitted.shape pass acts.at r (one_of_reads t r c)));
+        installed = every_write M lawful t cs going idle stored m admitted pass acts (λ w. SomeStepOf t.pass.view (InstallsFor (attempt_in t) w))
             (all_of (λ w. SomeStepOf t.pass.view (InstallsFor (attempt_in t) w)) (writes_in t)
             (λ w c. let some = (slot_at t has m k admitted.shape pass acts.at w c).2.installed in
             own_step t (InstallsFor (attempt_in t) w) (some.0, some.1, some.2.0)));
-        certified = certified M lawful t cs going idle m admitted pass acts;
+        certified = certified M lawful t cs going idle stored m admitted pass acts;
       }
 
   -- by certificates by which the transaction is under way
   pub may_enter : (m : Machine) → Admitted M t.field.origin m → (pass : ℕ) → Acts m pass t.pass.view
-      → (h : Hand) × (ds : List Certificate) × IsGoing M t ds × MayReady M m t.pass.view h ds (length t.reads)
+      → (h : Hand) × (ds : List Certificate) × IsGoing M t ds × MayReady M m t.pass.view h ds (length (unwritten_reads t))
   may_enter m admitted pass acts = (t.hand, cs, going, may_ready m admitted pass acts)

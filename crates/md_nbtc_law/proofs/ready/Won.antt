@@ -3,7 +3,7 @@ use Rattle.std.proofs.Common.{◌≡◌, ◌++◌, ℕ, true, List, [], ◌∷�
 use Rattle.std.specs.Prelude.{is_none}
 use Rattle.std.proofs.lemmas.Bool.{cond-true, false≢true}
 use Rattle.std.proofs.lemmas.List.{same_from_push}
-use Rattle.std.proofs.lemmas.List.Elements.{All-cons, All-nil, Contains-append_right}
+use Rattle.std.proofs.lemmas.List.Elements.{All-cons, All-nil, All-weaker, Contains-append_right}
 use Rattle.std.specs.List.{All, Contains}
 use Rattle.md_words.specs.declared.shape.Shape.{Shape}
 use Rattle.md_words.specs.Lanes.{OwnsDesc, OwnsNode, lane_of_desc}
@@ -49,16 +49,17 @@ use Rattle.md_nbtc_law.specs.declared.slots.Lot.{Lot}
 use Rattle.md_nbtc_law.specs.declared.slots.Slot.{Slot}
 use Rattle.md_nbtc_law.specs.Ending.{HasEntry, IsReady, IsReadyCleanup, Readies}
 use Rattle.md_nbtc_law.specs.Going.{IsGoing}
-use Rattle.md_nbtc_law.specs.Prepared.{IsHeld, IsRecorded, IsWritten, LastOn}
-use Rattle.md_nbtc_law.specs.State.{OwnNode, TxnState, attempt_in, own_steps, shape_in, state_of, writes_in}
+use Rattle.md_nbtc_law.specs.Prepared.{EachFrom, IsHeld, IsRecorded, IsStoredAt, IsWritten, LastOn, StoresReads}
+use Rattle.md_nbtc_law.specs.State.{OwnNode, TxnState, attempt_in, own_steps, shape_in, state_of, unwritten_reads, writes_in}
 use Rattle.md_nbtc_law.proofs.preparing.GoingOn.{own_grows}
-use Rattle.md_nbtc_law.proofs.preparing.Quiet.{IsQuiet, IsStill}
+use Rattle.md_nbtc_law.proofs.preparing.Quiet.{IsQuiet, IsStill, stored_still}
 use Rattle.md_nbtc_law.proofs.preparing.SameState.{same_state}
 use Rattle.md_nbtc_law.proofs.preparing.StatusApart.{counted_apart}
 use Rattle.md_nbtc_law.proofs.preparing.StaysPrepared.{each_weaker, held_then}
 use Rattle.md_nbtc_law.proofs.ready.Lookups.{all_of}
 use Rattle.md_nbtc_law.proofs.ready.Nodes.{own_node}
 use Rattle.md_nbtc_law.proofs.ready.Telling.{known_same}
+use Rattle.md_nbtc_law.proofs.ready.Unwritten.{cut_held, none_written}
 
 second_none : (o p : Option Structure) → is_none (or_else o p) ≡ true → p ≡ None
 second_none None None none = refl
@@ -77,15 +78,8 @@ module _ (t : TxnState) (h : IsHeld t) (seen : List HistoryEntry) (known : List 
     last = l.last;
   }
 
-  recorded_seeing : (i : ℕ) (r : Read) → IsRecorded t i r → IsRecorded seeing i r
-  recorded_seeing i r x = record {
-    counted = x.counted;
-    even = x.even;
-    word = stored_seeing _ _ x.word;
-    content = stored_seeing _ _ x.content;
-    shown = x.shown;
-    left = x.left;
-  }
+  recorded_seeing : (r : Read) → IsRecorded t r → IsRecorded seeing r
+  recorded_seeing r x = record { counted = x.counted; even = x.even; left = x.left }
 
   written_seeing : (i : ℕ) (w : Write) → IsWritten t i w → IsWritten seeing i w
   written_seeing i w x = record { slot = x.slot; counted = x.counted; from = x.from; installed = x.installed; left = x.left; old = stored_seeing _ _ x.old; new = stored_seeing _ _ x.new }
@@ -105,7 +99,7 @@ module _ (t : TxnState) (h : IsHeld t) (seen : List HistoryEntry) (known : List 
     stored = h.stored;
     few_reads = h.few_reads;
     few_writes = h.few_writes;
-    reads = each_weaker (IsRecorded t) (IsRecorded seeing) recorded_seeing 0 t.reads h.reads;
+    reads = All-weaker (IsRecorded t) (IsRecorded seeing) recorded_seeing t.reads h.reads;
     writes = each_weaker (IsWritten t) (IsWritten seeing) written_seeing 0 (writes_in t) h.writes;
     recorded_once = h.recorded_once;
     written_once = h.written_once;
@@ -115,8 +109,8 @@ module _ (t : TxnState) (h : IsHeld t) (seen : List HistoryEntry) (known : List 
     nodes_differ = h.nodes_differ;
   }
 
-module _ (M : Meaning) (lawful : Lawful M) (t : TxnState) (cs : List Certificate) (going : IsGoing M t cs) (q : PassView)
-    (step : SteppedFrom M t.field.origin (λ pass. ready pass (length t.reads)) (address (shape_in t) (desc_status (attempt_in t).desc))
+module _ (M : Meaning) (lawful : Lawful M) (t : TxnState) (cs : List Certificate) (going : IsGoing M t cs) (stored : StoresReads t) (q : PassView)
+    (step : SteppedFrom M t.field.origin (λ pass. ready pass (length (unwritten_reads t))) (address (shape_in t) (desc_status (attempt_in t).desc))
     (unready_word (attempt_in t)) t.pass.view q) where
   abbrev a : AttemptId
   a = attempt_in t
@@ -132,16 +126,16 @@ module _ (M : Meaning) (lawful : Lawful M) (t : TxnState) (cs : List Certificate
 
   -- the certificates that its entry has: some for which the step's condition held
   abbrev pub certificates : List Certificate
-  certificates = (told_ready M t.field.origin t.pass.view q (length t.reads) step.0).1
+  certificates = (told_ready M t.field.origin t.pass.view q (length (unwritten_reads t)) step.0).1
 
   -- the pass after the step, but for what it has seen
   abbrev pub stepped_view : PassView
-  stepped_view = exchanged m t.pass.view Ready status (unready_word a) (ready_word a (length t.reads))
+  stepped_view = exchanged m t.pass.view Ready status (unready_word a) (ready_word a (length (unwritten_reads t)))
 
-  pub won_view : q ≡ record stepped_view { seen = history_after_ready m t.hand certificates (length t.reads); known = fates_after_ready m }
+  pub won_view : q ≡ record stepped_view { seen = history_after_ready m t.hand certificates (length (unwritten_reads t)); known = fates_after_ready m }
   won_view =
-      let told = told_ready M t.field.origin t.pass.view q (length t.reads) step.0 in
-      let count = length t.reads in
+      let told = told_ready M t.field.origin t.pass.view q (length (unwritten_reads t)) step.0 in
+      let count = length (unwritten_reads t) in
       let hand : told.0 ≡ t.hand = some_same told.0 t.hand (sym told.2.held ∙ has.held) in
       let at_word = address (shape_of m) (desc_status a.desc) in
       let after : Shape → PassView = λ s. exchanged m t.pass.view Ready (address s (desc_status a.desc)) (unready_word a) (ready_word a count) in
@@ -154,19 +148,19 @@ module _ (M : Meaning) (lawful : Lawful M) (t : TxnState) (cs : List Certificate
   -- the step tells no fate: the status was in preparation, and is in progress
   none_told : AllStay t.pass.view.known stepped_view.known
   none_told =
-      let s = step_of m t.pass.view Ready status (left_by m status (unready_word a) (ready_word a (length t.reads))) in
+      let s = step_of m t.pass.view Ready status (left_by m status (unready_word a) (ready_word a (length (unwritten_reads t)))) in
       let exists = own_desc_exists (shape_in t) has.own.0 a.desc has.own.2 in
       let place : place_at (shape_of m) status ≡ desc_status a.desc = ap (λ x. place_at x status) step.0.admitted.shape ∙ place_at-address (shape_in t) (desc_status a.desc) exists in
-      let left : s.after ≡ ready_word a (length t.reads) =
-      cond-true (wins m status (unready_word a)) (ready_word a (length t.reads)) (content m status) (eq-eqb (content m status) (unready_word a) step.1) in
+      let left : s.after ≡ ready_word a (length (unwritten_reads t)) =
+      cond-true (wins m status (unready_word a)) (ready_word a (length (unwritten_reads t))) (content m status) (eq-eqb (content m status) (unready_word a) step.1) in
       subst (AllStay t.pass.view.known)
       (sym (known_same t.pass.view.seen s (place_at (shape_of m) status) a.desc InPrep InProg t.pass.view.known place
       (ap status_of step.1 ∙ status_of-status_word InPrep 0 a.serial) (λ _. refl)
-      (ap status_of left ∙ status_of-status_word InProg (length t.reads) a.serial) (λ _. refl)))
+      (ap status_of left ∙ status_of-status_word InProg (length (unwritten_reads t)) a.serial) (λ _. refl)))
       (all_stay-self t.pass.view.known)
 
-  pub won_made : Made (shape_in t) Ready status (unready_word a) (ready_word a (length t.reads)) t.pass.view stepped_view
-  won_made = won_exchange M t.field.origin m Ready status (unready_word a) (ready_word a (length t.reads)) t.pass.view stepped_view step.0.admitted.shape step.1 refl (λ _. none_told)
+  pub won_made : Made (shape_in t) Ready status (unready_word a) (ready_word a (length (unwritten_reads t))) t.pass.view stepped_view
+  won_made = won_exchange M t.field.origin m Ready status (unready_word a) (ready_word a (length (unwritten_reads t))) t.pass.view stepped_view step.0.admitted.shape step.1 refl (λ _. none_told)
 
   won_lanes : q.lanes ≡ t.pass.view.lanes
   won_lanes = ap (λ (x : PassView). x.lanes) won_view
@@ -175,15 +169,15 @@ module _ (M : Meaning) (lawful : Lawful M) (t : TxnState) (cs : List Certificate
   won_trail = ap (λ (x : PassView). x.trail) won_view ∙ trail_after (shape_in t) (won_made.step ∷ []) t.pass.view stepped_view won_made.goes
 
   abbrev pub now_ready : TxnState
-  now_ready = record t { pass = record t.pass { view = q } }
+  now_ready = record t { pass = record t.pass { view = q }; reads = unwritten_reads t }
 
   pub won_stands : StandsInField M t.field.origin q
-  won_stands = stands_after M t.field.origin (λ pass. ready pass (length t.reads)) t.pass.view q step.0 won_lanes
+  won_stands = stands_after M t.field.origin (λ pass. ready pass (length (unwritten_reads t))) t.pass.view q step.0 won_lanes
 
   -- its entry is the last that the pass has seen
   unfoldable pub won_entry : HasEntry now_ready
   won_entry = record {
-    entry = history_entry m t.hand certificates (length t.reads);
+    entry = history_entry m t.hand certificates (length (unwritten_reads t));
     before = m.history;
     last = ap (λ (x : PassView). x.seen) won_view;
     fates = m.fates;
@@ -193,7 +187,7 @@ module _ (M : Meaning) (lawful : Lawful M) (t : TxnState) (cs : List Certificate
     acts = refl;
   }
 
-  pub won_left : LastOn status (ready_word a (length t.reads)) (own_steps now_ready)
+  pub won_left : LastOn status (ready_word a (length (unwritten_reads t))) (own_steps now_ready)
   won_left = record {
     earlier = own_steps t;
     step = won_made.step;
@@ -228,7 +222,7 @@ module _ (M : Meaning) (lawful : Lawful M) (t : TxnState) (cs : List Certificate
 
   -- its entry is of the lane of its descriptor, which is one of the pass's
   abbrev entry_lane : ℕ
-  entry_lane = (history_entry m t.hand certificates (length t.reads)).entry.lane
+  entry_lane = (history_entry m t.hand certificates (length (unwritten_reads t))).entry.lane
 
   lane_is : entry_lane ≡ a.desc
   unfolding lane_of_desc
@@ -243,9 +237,9 @@ module _ (M : Meaning) (lawful : Lawful M) (t : TxnState) (cs : List Certificate
   unfolding won_entry
   won_readies =
       let lane = has.own.0 in
-      let on = (goes_on M t.field.origin m step.0.next (ready step.0.pass (length t.reads)) step.0.admitted step.0.does).fronts
+      let on = (goes_on M t.field.origin m step.0.next (ready step.0.pass (length (unwritten_reads t))) step.0.admitted step.0.does).fronts
       step.0.pass step.0.pass lane t.pass.view q step.0.acts.at step.0.knows has.own.1 (subst (λ l. Contains l lane) (sym won_lanes) has.own.1) in
-      let entry = history_entry m t.hand certificates (length t.reads) in
+      let entry = history_entry m t.hand certificates (length (unwritten_reads t)) in
       let now = won_stands in
       record {
         same = record {
@@ -271,8 +265,8 @@ module _ (M : Meaning) (lawful : Lawful M) (t : TxnState) (cs : List Certificate
 
   -- what is so of the last entry that the pass has seen is so of the transaction's
   pub won_last : (P : HistoryEntry → Type 0) (before : List HistoryEntry) (entry : HistoryEntry) → q.seen ≡ before ++ entry ∷ [] → P entry
-      → P (history_entry m t.hand certificates (length t.reads))
-  won_last P before entry is so = subst P (same_from_push before m.history entry (history_entry m t.hand certificates (length t.reads))
+      → P (history_entry m t.hand certificates (length (unwritten_reads t)))
+  won_last P before entry is so = subst P (same_from_push before m.history entry (history_entry m t.hand certificates (length (unwritten_reads t)))
       (sym is ∙ ap (λ (x : PassView). x.seen) won_view)).1 so
 
   pub won_quiet : All IsQuiet (won_made.step ∷ [])
@@ -291,8 +285,17 @@ module _ (M : Meaning) (lawful : Lawful M) (t : TxnState) (cs : List Certificate
       (λ i w written. All-cons (λ s. s.word ≡ w.word → s.before ≡ s.after) s [] (λ there. absurd (counted_apart t going.prepared w.word written.counted (sym there ∙ won_made.there))) (All-nil (λ s. s.word ≡ w.word → s.before ≡ s.after)))
 
   won_held : IsHeld now_ready
-  won_held = subst (λ v. IsHeld (record t { pass = record t.pass { view = v } })) (sym won_view)
-      (held_seeing (record t { pass = record t.pass { view = stepped_view } }) held_stepped (history_after_ready m t.hand certificates (length t.reads)) (fates_after_ready m))
+  won_held = cut_held (record t { pass = record t.pass { view = q } }) (subst (λ v. IsHeld (record t { pass = record t.pass { view = v } })) (sym won_view)
+      (held_seeing (record t { pass = record t.pass { view = stepped_view } }) held_stepped (history_after_ready m t.hand certificates (length (unwritten_reads t))) (fates_after_ready m)))
+
+  -- and its reads are stored
+  stored_then : (word held : ℕ) → LastStored t.pass.view a word held → LastStored q a word held
+  stored_then word held l = subst (λ v. LastStored v a word held) (sym won_view)
+      (stored_seeing (record t { pass = record t.pass { view = stepped_view } }) held_stepped (history_after_ready m t.hand certificates (length (unwritten_reads t))) (fates_after_ready m)
+      word held (stored_still (shape_in t) (won_made.step ∷ []) t.pass.view stepped_view won_made.goes a word held won_quiet l))
+
+  won_stored : EachFrom (IsStoredAt now_ready) 0 (unwritten_reads t)
+  won_stored = each_weaker (IsStoredAt t) (IsStoredAt now_ready) (λ i r x. record { word = stored_then _ _ x.word; content = stored_then _ _ x.content }) 0 (unwritten_reads t) stored
 
   -- and it is ready, if its kept cleanups will be tidy
   pub won_ready : All (λ (s : Slot). IfSome s.cleanup (IsReadyCleanup M now_ready won_entry s.write)) t.slots
@@ -304,6 +307,8 @@ module _ (M : Meaning) (lawful : Lawful M) (t : TxnState) (cs : List Certificate
       has = won_held;
       entry = won_entry;
       left = won_left;
+      stored = won_stored;
+      unwritten = none_written (writes_in t) t.reads;
       nodes = won_nodes;
       cleanups = cleanups;
     },
@@ -312,27 +317,28 @@ module _ (M : Meaning) (lawful : Lawful M) (t : TxnState) (cs : List Certificate
 
 -- what contracts see of the transaction then
 module _ (M : Meaning) (lawful : Lawful M) (field : FieldView) (p began : PassState) (reads : List Read) (slots : List Slot) (desc serial tag : ℕ) (lots : List Lot)
-    (cs : List Certificate) (going : IsGoing M (state_of field p began reads slots None desc serial tag lots) cs) (q : PassView)
-    (step : SteppedFrom M field.origin (λ pass. ready pass (length reads))
+    (cs : List Certificate) (going : IsGoing M (state_of field p began reads slots None desc serial tag lots) cs)
+    (stored : StoresReads (state_of field p began reads slots None desc serial tag lots)) (q : PassView)
+    (step : SteppedFrom M field.origin (λ pass. ready pass (length (unwritten_reads (state_of field p began reads slots None desc serial tag lots))))
     (address field.origin.shape (desc_status (attempt_in (state_of field p began reads slots None desc serial tag lots)).desc))
     (unready_word (attempt_in (state_of field p began reads slots None desc serial tag lots))) p.view q) where
   abbrev before : TxnState
   before = state_of field p began reads slots None desc serial tag lots
 
   abbrev stepped_on : PassView
-  stepped_on = stepped_view M lawful before cs going q step
+  stepped_on = stepped_view M lawful before cs going stored q step
 
   state_stepped : state_of field (record p { view = stepped_on }) began reads slots None desc serial tag lots ≡ record before { pass = record p { view = stepped_on } }
   state_stepped =
-      let made = won_made M lawful before cs going q step in
-      same_state field.origin.shape p stepped_on (made.step ∷ []) made.goes (won_quiet M lawful before cs going q step) field began reads slots None desc serial tag lots
+      let made = won_made M lawful before cs going stored q step in
+      same_state field.origin.shape p stepped_on (made.step ∷ []) made.goes (won_quiet M lawful before cs going stored q step) field began reads slots None desc serial tag lots
 
-  pub won_state : state_of field (record p { view = q }) began reads slots None desc serial tag lots ≡ now_ready M lawful before cs going q step
+  pub won_state : state_of field (record p { view = q }) began (unwritten_reads before) slots None desc serial tag lots ≡ now_ready M lawful before cs going stored q step
   won_state =
       let seeing : PassView = record stepped_on {
-        seen = history_after_ready step.0.machine before.hand (certificates M lawful before cs going q step) (length reads);
+        seen = history_after_ready step.0.machine before.hand (certificates M lawful before cs going stored q step) (length (unwritten_reads before));
         known = fates_after_ready step.0.machine;
       } in
-      subst (λ v. state_of field (record p { view = v }) began reads slots None desc serial tag lots ≡ record before { pass = record p { view = v } })
-      (sym (won_view M lawful before cs going q step))
-      (ap (λ (x : TxnState). record x { pass = record p { view = seeing } }) state_stepped)
+      subst (λ v. state_of field (record p { view = v }) began (unwritten_reads before) slots None desc serial tag lots ≡ record before { pass = record p { view = v }; reads = unwritten_reads before })
+      (sym (won_view M lawful before cs going stored q step))
+      (ap (λ (x : TxnState). record x { pass = record p { view = seeing }; reads = unwritten_reads before }) state_stepped)

@@ -1,19 +1,16 @@
 -- A transaction that recorded a word goes on.
-use Rattle.std.proofs.Common.{◌≡◌, ◌≢◌, ◌++◌, ◌∷◌, ◌<◌, ℕ, true, false, List, [], length, Some, None, is_some, refl, sym, ap, ◌∙◌, subst, inl, inr, ⊎_elim, arith}
+use Rattle.std.proofs.Common.{◌≡◌, ◌≢◌, ◌∷◌, ◌<◌, ℕ, true, false, List, [], length, Some, None, is_some, refl, sym, ap, ◌∙◌, subst, inl, inr, ⊎_elim, arith}
 use Rattle.std.proofs.lemmas.Bool.{cases_eq}
 use Rattle.std.proofs.lemmas.List.{append-nil}
 use Rattle.std.proofs.lemmas.List.Elements.{All-weaker, Contains-append_left, Contains-push_cases}
 use Rattle.std.proofs.lemmas.Option.{IfSome_then}
+use Rattle.std.specs.List.{Contains}
 use Rattle.md_words.specs.declared.limits.TheConstants.{SET}
 use Rattle.md_words.specs.Content.{count_of, is_even, value_of}
-use Rattle.md_words.specs.Layout.{IsInSet}
-use Rattle.md_words.proofs.Owners.{own_desc_exists}
 use Rattle.md_history.specs.declared.stops.Stop.{Stop}
 use Rattle.md_machine.specs.declared.attempt.Read.{Read}
 use Rattle.md_machine.specs.declared.attempt.Write.{Write}
 use Rattle.md_machine.specs.declared.certificate.Certificate.{Certificate}
-use Rattle.md_machine.specs.declared.pass.PassView.{PassView}
-use Rattle.md_machine.specs.declared.step.Step.{Step}
 use Rattle.md_machine.specs.Certified.{RecordsFound, all_nodes, content_read, first_content, is_written}
 use Rattle.md_machine.specs.Meaning.{Meaning}
 use Rattle.md_machine.proofs.lists.Options.{some_same}
@@ -26,39 +23,19 @@ use Rattle.md_nbtc_law.specs.Known.{IsLater}
 use Rattle.md_nbtc_law.specs.Prepared.{IsPrepared}
 use Rattle.md_nbtc_law.specs.Seeing.{Gave, MayChange, SeesContent}
 use Rattle.md_nbtc_law.specs.State.{TxnState, attempt_in, own_steps, seen_content, shape_in, writes_in}
-use Rattle.md_nbtc_law.proofs.looks.Given.{gave_same}
 use Rattle.md_nbtc_law.proofs.preparing.Carried.{change_carried, first_carried, kept_carried, unplaced_carried}
-use Rattle.md_nbtc_law.proofs.preparing.GoingOn.{cause_kept, moved_among, none_left}
+use Rattle.md_nbtc_law.proofs.preparing.Fronts.{front_self}
+use Rattle.md_nbtc_law.proofs.preparing.GoingOn.{cause_kept, moved_among}
 use Rattle.md_nbtc_law.proofs.preparing.Later.{known_later}
-use Rattle.md_nbtc_law.proofs.preparing.Fronts.{front_after}
-use Rattle.md_nbtc_law.proofs.recording.ReadMore.{counted_apart, now, own_then, read_prepared}
+use Rattle.md_nbtc_law.proofs.recording.ReadMore.{now, read_prepared}
 use Rattle.md_nbtc_law.proofs.recording.ReadSets.{first_other, first_some, first_this}
-use Rattle.md_nbtc_law.proofs.recording.StoredRead.{Prepares, StoredRead}
 
--- the pass of a transaction has its attempt in hand
-pub prepares : (t : TxnState) → IsPrepared t → Prepares t.field.origin t.pass.view t.hand
-prepares t p = record { held = p.has.held; desc = p.has.own; unready = p.unready }
-
--- the next read of its descriptor
-pub next_read : (t : TxnState) → IsPrepared t → length t.reads < SET → IsInSet (shape_in t) (attempt_in t).desc (length t.reads)
-next_read t p room = (own_desc_exists (shape_in t) p.has.own.0 (attempt_in t).desc p.has.own.2, room)
-
-module _ (M : Meaning) (t : TxnState) (prepared : IsPrepared t) (word : ℕ) (seen : Seen) (room : length t.reads < SET) (q : PassView)
-    (stored : StoredRead M t.field.origin t.hand (length t.reads) (next_read t prepared room) t.pass.view word (seen_content seen) q) where
-  abbrev pub steps : List Step
-  steps = stored.first ∷ stored.second ∷ []
-
+module _ (M : Meaning) (t : TxnState) (prepared : IsPrepared t) (word : ℕ) (seen : Seen) (room : length t.reads < SET) where
   abbrev pub noted : TxnState
-  noted = now t prepared word (seen_content seen) stored.first stored.second q stored.goes room stored.stores_word stored.word_left stored.stores_content stored.content_left
+  noted = now t prepared word (seen_content seen)
 
   abbrev pub new_read : Read
   new_read = record { word = word; content = seen_content seen; stood = true }
-
-  own_more : own_steps noted ≡ own_steps t ++ steps
-  own_more = own_then t prepared word (seen_content seen) stored.first stored.second q stored.goes room stored.stores_word stored.word_left stored.stores_content stored.content_left
-
-  lanes_same : q.lanes ≡ t.pass.view.lanes
-  lanes_same = ap (λ (x : PassView). x.lanes) stored.goes.1
 
   pub noted_later : IsLater t noted
   noted_later = record {
@@ -66,27 +43,30 @@ module _ (M : Meaning) (t : TxnState) (prepared : IsPrepared t) (word : ℕ) (se
     began = refl;
     attempt = refl;
     tag = refl;
-    lanes = lanes_same;
-    past = ap (λ (x : PassView). x.past) stored.goes.1;
-    steps = record { rest = steps; is = ap (λ (x : PassView). x.trail) stored.goes.1 };
-    noted = record { rest = stored.goes.0; is = ap (λ (x : PassView). x.placed) stored.goes.1 };
+    lanes = refl;
+    past = refl;
+    steps = record { rest = []; is = sym (append-nil _) };
+    noted = record { rest = []; is = sym (append-nil _) };
     reads = record { rest = new_read ∷ []; is = refl };
     installs = record { rest = []; is = sym (append-nil _) };
     nodes = record { rest = []; is = sym (append-nil _) };
-    front = front_after (shape_in t) t.pass steps q t.pass.shares stored.goes (λ lane. refl);
+    front = front_self t.pass;
   }
+
+  old_read : (r : Read) → Contains t.reads r → Contains noted.reads r
+  old_read r c = Contains-append_left t.reads (new_read ∷ []) r c
 
   cause_more : (s : Stop) → HasCause t s → HasCause noted s
   cause_more = cause_kept t noted (record {
     shape = refl;
     attempt = refl;
-    lanes = lanes_same;
-    steps = steps;
-    own = own_more;
+    lanes = refl;
+    steps = [];
+    own = sym (append-nil (own_steps t));
     reads = λ full. absurd (omega (arith, full, room));
-    recorded = λ r c. Contains-append_left t.reads (new_read ∷ []) r c;
+    recorded = old_read;
     slots = λ full. full;
-    nodes = none_left t.pass noted.pass refl lanes_same (λ lane. omega arith);
+    nodes = λ none. none;
   })
 
   module _ (parts : (value_of (seen_content seen) ≡ seen.value) × (count_of (seen_content seen) ≡ seen.count)) (gave : Gave t word seen) (other : seen.own ≡ false) (found : IsFoundFirst M t word seen.value) (unread : content_read t.reads word ≡ None) where
@@ -100,8 +80,7 @@ module _ (M : Meaning) (t : TxnState) (prepared : IsPrepared t) (word : ℕ) (se
     unwritten = sym gave.own ∙ other
 
     pub noted_prepared : IsPrepared noted
-    noted_prepared = read_prepared t prepared word (seen_content seen) stored.first stored.second q stored.goes room stored.stores_word stored.word_left stored.stores_content stored.content_left
-        gave.counted even sees.left unread unwritten stored.free
+    noted_prepared = read_prepared t prepared word (seen_content seen) room gave.counted even sees.left unread unwritten
 
     first_more : (w content : ℕ) → ((w content : ℕ) → first_content t.reads (writes_in t) w ≡ Some content → IsFoundFirst M t w (value_of content))
         → first_content noted.reads (writes_in t) w ≡ Some content → IsFoundFirst M noted w (value_of content)
@@ -135,7 +114,7 @@ module _ (M : Meaning) (t : TxnState) (prepared : IsPrepared t) (word : ℕ) (se
     pub noted_on : GoesOn M t noted
     noted_on = record {
       going = λ cs g. record {
-        stands = stored.stands;
+        stands = g.stands;
         prepared = noted_prepared;
         nodes = All-weaker (IsUnplaced M t) (IsUnplaced M noted) (unplaced_carried M t noted.pass noted.reads t.slots t.stop noted_later) t.nodes g.nodes;
         first = λ w content is. first_more w content g.first is;
@@ -150,29 +129,21 @@ module _ (M : Meaning) (t : TxnState) (prepared : IsPrepared t) (word : ℕ) (se
 
     -- what was given stays so of the words that are recorded no other than they were
     gave_more : (w : ℕ) (x : Seen) → Gave t w x → (w ≡ word → seen_content seen ≡ seen_content x) → Gave noted w x
-    gave_more w x g same =
-        let off = counted_apart t prepared word (seen_content seen) stored.first stored.second q stored.goes room stored.stores_word stored.word_left stored.stores_content stored.content_left w g.counted in
-        let on = gave_same t (record t.pass { view = q }) steps own_more lanes_same w x
-        (All-weaker (λ s. s.word ≢ w) (λ s. s.word ≡ w → s.before ≡ s.after) (λ s no is. absurd (no is)) steps off) g in
-        record {
-          counted = on.counted;
-          own = on.own;
-          slot = λ is. let s = on.slot is in record { write = s.write; among = s.among; there = s.there; value = s.value; count = s.count };
-          content = λ is. let c = on.content is in record {
-            even = c.even;
-            left = c.left;
-            moved = λ r among there. ⊎_elim
-                (λ old. ⊎_elim inl
-                (λ m. inr (
-                  moved_among (shape_in t) (attempt_in t) t.reads noted.reads (λ y d. Contains-append_left t.reads (new_read ∷ []) y d) (own_steps noted)
-                      (record { word = w; was = r.content; now = seen_content x }) m.0,
-                  m.1,
-                ))
-                (c.moved r old there))
-                (λ new. inl (sym (ap (λ (y : Read). y.content) new) ∙ same (sym there ∙ sym (ap (λ (y : Read). y.word) new))))
-                (Contains-push_cases t.reads new_read r among);
-          };
-        }
+    gave_more w x g same = record {
+      counted = g.counted;
+      own = g.own;
+      slot = λ is. let s = g.slot is in record { write = s.write; among = s.among; there = s.there; value = s.value; count = s.count };
+      content = λ is. let c = g.content is in record {
+        even = c.even;
+        left = c.left;
+        moved = λ r among there. ⊎_elim
+            (λ old. ⊎_elim inl
+            (λ m. inr (moved_among (shape_in t) (attempt_in t) t.reads noted.reads old_read (own_steps t) (record { word = w; was = r.content; now = seen_content x }) m.0, m.1))
+            (c.moved r old there))
+            (λ new. inl (sym (ap (λ (y : Read). y.content) new) ∙ same (sym there ∙ sym (ap (λ (y : Read). y.word) new))))
+            (Contains-push_cases t.reads new_read r among);
+      };
+    }
 
     pub noted_given : (w : ℕ) (x : Seen) → w ≢ word → Gave t w x → Gave noted w x
     noted_given w x differ g = gave_more w x g (λ is. absurd (differ is))
