@@ -1,6 +1,6 @@
 //! How a transaction ends.
 
-ghost use Rattle.std.specs.Prelude.{◌≡◌, ◌<◌, ◌^◌, None, IfErr, IfOk, MatchResult, false};
+ghost use Rattle.std.specs.Prelude.{◌≡◌, ◌<◌, ◌^◌, None, IfErr, IfOk, MatchResult, false, length};
 ghost use Rattle.md_words.specs.declared.status.Status.TheVariants.{InPrep};
 ghost use Rattle.md_words.specs.Status.{status_word};
 ghost use Rattle.md_nbtc_law.specs.Ending.{Aborts, CommitsTransaction, HasEntry, IsReady};
@@ -9,6 +9,8 @@ ghost use Rattle.md_nbtc_law.specs.Ending.{Stopped, TellsWhy, receipt_of, shown_
 ghost use Rattle.md_nbtc_law.specs.Ended.{WasCommitted, WasLost, WasUnready};
 ghost use Rattle.md_nbtc_law.specs.LeftReady.{WasLeftReady};
 ghost use Rattle.md_nbtc_law.specs.Going.{IsUnderWay};
+ghost use Rattle.md_nbtc_law.specs.Prepared.{StoresReads};
+ghost use Rattle.md_nbtc_law.specs.State.{unwritten_reads};
 ghost use Rattle.md_nbtc_sets.specs.Deciding.{state_by};
 ghost use Rattle.md_nbtc.specs.Ending.{ready_state};
 ghost use Rattle.md_nbtc.specs.State.{state};
@@ -52,8 +54,9 @@ impl<'a, T: Theory> Txn<'a, T> {
     /// Another pass is live then. The refusal holds the pass until it is dropped. It takes no
     /// memory.
     ///
-    /// It takes one step. If it is refused, it takes one more, and one for each word that it wrote.
-    pub fn ready(self) -> Result<Ready<'a, T>, NotReady<'a, T>>
+    /// It takes two steps for each recorded word that it doesn't write, and one more. If it is
+    /// refused, it takes another one, and one for each word that it wrote.
+    pub fn ready(mut self) -> Result<Ready<'a, T>, NotReady<'a, T>>
         requires going { IsUnderWay T.meaning (state self) }
         requires between { (state self).hand.operating ≡ false }
         requires runs { (state self).stop ≡ None }
@@ -66,6 +69,7 @@ impl<'a, T: Theory> Txn<'a, T> {
             × (r.shown ≡ shown_unready (state self.entry))
             × IsShown (state self.entry) r.pass.now r.shown) }
     {
+        let count = self.store_reads();
         let Txn {
             pass,
             field,
@@ -76,7 +80,8 @@ impl<'a, T: Theory> Txn<'a, T> {
             sets,
             stop: _,
         } = self;
-        match made_ready(field, pass, &began, AttemptId { desc, serial }, tag, sets) {
+        let attempt = AttemptId { desc, serial };
+        match made_ready(field, pass, &began, attempt, tag, sets, count) {
             Ok(()) => Ok(Ready {
                 pass,
                 field,
@@ -94,7 +99,7 @@ impl<'a, T: Theory> Txn<'a, T> {
 impl<'a, T: Theory> Txn<'a, T> {
     /// Makes the transaction ready and decides it at once, as `ready` and `decide` in turn do. It
     /// has their conditions, steps and errors, but returns no receipt. It takes no memory.
-    pub fn commit(self) -> Result<(), Shown>
+    pub fn commit(mut self) -> Result<(), Shown>
         requires going { IsUnderWay T.meaning (state self) }
         requires between { (state self).hand.operating ≡ false }
         requires runs { (state self).stop ≡ None }
@@ -102,6 +107,7 @@ impl<'a, T: Theory> Txn<'a, T> {
             self.exit.0.now) }
         ensures lost { IfErr result (WasLost T.meaning (state self.entry) self.exit.0.now) }
     {
+        let count = self.store_reads();
         let Txn {
             pass,
             field,
@@ -113,7 +119,7 @@ impl<'a, T: Theory> Txn<'a, T> {
             stop: _,
         } = self;
         let attempt = AttemptId { desc, serial };
-        made_ready(field, pass, &began, attempt, tag, sets)?;
+        made_ready(field, pass, &began, attempt, tag, sets, count)?;
         decided(field, pass, &began, attempt, tag, sets)
     }
 }
@@ -121,7 +127,7 @@ impl<'a, T: Theory> Txn<'a, T> {
 impl<'a, T: Theory> Txn<'a, T> {
     /// Makes the transaction ready and leaves it undecided, as `ready` and `Ready::leave` in turn
     /// do. It has their conditions, steps and errors. It takes no memory.
-    pub fn leave_ready(self) -> Result<(), Shown>
+    pub fn leave_ready(mut self) -> Result<(), Shown>
         requires going { IsUnderWay T.meaning (state self) }
         requires between { (state self).hand.operating ≡ false }
         requires runs { (state self).stop ≡ None }
@@ -129,6 +135,7 @@ impl<'a, T: Theory> Txn<'a, T> {
             self.exit.0.now) }
         ensures refused { IfErr result (WasUnready T.meaning (state self.entry) self.exit.0.now) }
     {
+        let count = self.store_reads();
         let Txn {
             pass,
             field,
@@ -139,38 +146,48 @@ impl<'a, T: Theory> Txn<'a, T> {
             sets,
             stop: _,
         } = self;
-        made_ready(field, pass, &began, AttemptId { desc, serial }, tag, sets)
+        let attempt = AttemptId { desc, serial };
+        made_ready(field, pass, &began, attempt, tag, sets, count)
     }
 }
 
-// Makes a transaction ready, which is given by its parts as to `decided`. If another pass has
-// aborted it, it is withdrawn, and its status word is shown, before and after the abort.
+// Makes a transaction ready, which is given by its parts as to `decided`. The recorded words that
+// it doesn't write, so many, are stored in its descriptor, and it keeps only these. If another pass
+// has aborted it, it is withdrawn, and its status word is shown, before and after the abort.
 fn made_ready<T: Theory>(
     field: &Field<T>,
     pass: &mut Pass<T>,
     began: &Snapshot<Pass<T>>,
     attempt: AttemptId,
     tag: u64,
-    sets: &Sets,
+    sets: &mut Sets,
+    count: u8,
 ) -> Result<(), Shown>
     requires going { IsUnderWay T.meaning
-        (state_by field.now pass.old began.now.value sets.now attempt tag) }
-    requires between { let t = state_by field.now pass.old began.now.value sets.now attempt tag in
+        (state_by field.now pass.old began.now.value sets.old attempt tag) }
+    requires between { let t = state_by field.now pass.old began.now.value sets.old attempt tag in
         t.hand.operating ≡ false }
-    ensures ready { let u = state_by field.now pass.new began.now.value sets.now attempt tag in
+    requires stored { StoresReads
+        (state_by field.now pass.old began.now.value sets.old attempt tag) }
+    requires count { count ≡ length (unwritten_reads
+        (state_by field.now pass.old began.now.value sets.old attempt tag)) }
+    ensures ready { let u = state_by field.now pass.new began.now.value sets.new attempt tag in
         IfOk result (λ _. (is : IsReady T.meaning u)
-        × Readies (state_by field.now pass.old began.now.value sets.now attempt tag) u
+        × Readies (state_by field.now pass.old began.now.value sets.old attempt tag) u
         is.entry) }
-    ensures refused { let t = state_by field.now pass.old began.now.value sets.now attempt tag in
+    ensures refused { let t = state_by field.now pass.old began.now.value sets.old attempt tag in
         IfErr result (λ shown. Stopped T.meaning t pass.new × (shown ≡ shown_unready t)
         × IsShown t pass.new shown) }
 {
     let AttemptId { desc, serial } = attempt;
     let before = Snapshot::of(&*pass);
-    let about = Snapshot::of(&(before, began, sets, attempt, tag));
+    let about = Snapshot::of(&(before, began, &*sets, attempt, tag));
     let from = unready(serial);
-    match pass.ready::<Brand, _>(field, desc, from, sets.reads.len(), about) {
-        Ok(()) => Ok(()),
+    match pass.ready::<Brand, _>(field, desc, from, count, about) {
+        Ok(()) => {
+            sets.reads.drop_written(&sets.slots);
+            Ok(())
+        }
         Err(found) => {
             withdraw(field, pass, attempt, &sets.slots, &sets.lots, began);
             Err(Shown {
@@ -196,8 +213,8 @@ fn unready(serial: u64) -> u64
 }
 
 impl<'a, T: Theory> Ready<'a, T> {
-    /// Decides the transaction: it looks at each recorded word, and commits the transaction if all
-    /// still hold what was recorded. Otherwise it aborts it. If another pass decided it before,
+    /// Decides the transaction: it looks at each recorded word that it doesn't write, and commits
+    /// the transaction if all still hold what was recorded. Otherwise it aborts it. If another pass decided it before,
     /// that decision stands. Then the descriptor is taken out of the words that the transaction
     /// wrote. They have their new values after a commit, and their old ones after an abort.
     ///
@@ -207,8 +224,9 @@ impl<'a, T: Theory> Ready<'a, T> {
     /// after the abort by another pass. A transaction is aborted only while another pass is live.
     /// It takes no memory.
     ///
-    /// It takes one step for each recorded word, up to the first that has changed, one for the
-    /// decision, one for each written word, at most three for each kept cleanup, and one more.
+    /// It takes one step for each recorded word that it doesn't write, up to the first that has
+    /// changed, one for the decision, one for each written word, at most three for each kept
+    /// cleanup, and one more.
     pub fn decide(self) -> Result<Receipt, Shown>
         requires { IsReady T.meaning (ready_state self) }
         ensures committed { IfOk result (λ receipt. (e : HasEntry (ready_state self.entry))

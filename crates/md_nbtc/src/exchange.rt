@@ -9,7 +9,7 @@ ghost use Rattle.md_nbtc_law.specs.Calls.{AfterStop, Exchanges, GoesOn, MayBeOf,
 ghost use Rattle.md_nbtc_law.specs.Calls.{case_by_count, case_of_other, exchange_case, is_critical};
 ghost use Rattle.md_nbtc_law.specs.Calls.{is_next_word, makes_step, refusal_by, with_change};
 ghost use Rattle.md_nbtc_law.specs.Calls.ExchangeCase.{changes, installs};
-ghost use Rattle.md_nbtc_law.specs.Exchanging.{HoldsSlot, MayPutInSlot, Stored};
+ghost use Rattle.md_nbtc_law.specs.Exchanging.{HoldsSlot, MakesStores, MayPut, Stored};
 ghost use Rattle.md_nbtc_law.specs.Going.{IsUnderWay};
 ghost use Rattle.md_nbtc_law.specs.Seeing.{Gave, KeepsGiven};
 ghost use Rattle.md_nbtc_law.specs.Sets.{with_new};
@@ -200,14 +200,14 @@ impl<'a, T: Theory> Txn<'a, T> {
         None
     }
 
-    // Stores to a part of the next slot. One step.
-    fn put_in_slot(&mut self, at: u32, value: u64)
+    // Stores to a part of the next slot, or of a read. One step.
+    pub(crate) fn put(&mut self, at: u32, value: u64)
         requires going { IsUnderWay T.meaning (state self.old) }
-        requires operates { (state self.old).hand.operating ≡ true }
-        requires may { MayPutInSlot (state self.old) at value }
+        requires may { MayPut (state self.old) at value }
         ensures pass { self.new.pass.ghost_name ≡ self.old.pass.ghost_name }
         ensures on { GoesOn T.meaning (state self.old) (state self.new) }
         ensures only { ChangesPass (state self.old) (state self.new) }
+        ensures makes { MakesStores (state self.old) (state self.new) }
         ensures stored { Stored (state self.new) at value }
         ensures keeps { (word held : ℕ) → word ≢ at → Stored (state self.old) word held
             → Stored (state self.new) word held }
@@ -230,9 +230,9 @@ impl<'a, T: Theory> Txn<'a, T> {
         let at_word = self.field.shape().slot_word(self.desc, slot);
         let at_old = self.field.shape().slot_old(self.desc, slot);
         let at_new = self.field.shape().slot_new(self.desc, slot);
-        self.put_in_slot(at_word, word as u64);
-        self.put_in_slot(at_old, old);
-        self.put_in_slot(at_new, new as u64);
+        self.put(at_word, word as u64);
+        self.put(at_old, old);
+        self.put(at_new, new as u64);
     }
 
     // Puts the descriptor, at the next slot, into a word. Four steps.

@@ -33,4 +33,5 @@ mod fresh;
 mod load;
 mod note;
 mod stopping;
+mod storing;
 mod txn;

@@ -40,8 +40,8 @@ impl<'a, T: Theory> Txn<'a, T> {
     /// recorded, and 128 words are. The transaction keeps this stop. After a stop it returns the
     /// same stop, and does nothing.
     ///
-    /// It takes two steps if it records the word, and otherwise none. It searches the recorded
-    /// words.
+    /// It takes no step, and searches the recorded words. They are stored in the descriptor just
+    /// before the transaction becomes ready.
     #[inline(always)]
     pub fn note(&mut self, word: u32, seen: Seen) -> Result<(), Stop>
         requires going { IsUnderWay T.meaning (state self.old) }
@@ -91,7 +91,7 @@ impl<'a, T: Theory> Txn<'a, T> {
         Err(stop)
     }
 
-    // Records a word that isn't recorded yet, in the next read of the descriptor. Two steps.
+    // Keeps a word that isn't recorded yet, with what was seen there. No step.
     #[inline(always)]
     fn record(&mut self, word: u32, seen: Seen)
         requires going { IsUnderWay T.meaning (state self.old) }
@@ -99,24 +99,16 @@ impl<'a, T: Theory> Txn<'a, T> {
         ensures pass { self.new.pass.ghost_name ≡ self.old.pass.ghost_name }
         ensures on { GoesOn T.meaning (state self.old) (state self.new) }
         ensures recorded { state self.new ≡ record (state self.old) {
-          pass = (state self.new).pass;
           reads = (state self.old).reads
               ++ (record { word = word; content = seen_content seen; stood = true }) ∷ [];
         } }
         ensures given { KeepsGiven (state self.old) (state self.new) word }
         ensures gave { Gave (state self.new) word seen }
     {
-        let read = Read {
+        self.sets.reads.push(Read {
             word,
             content: content_of(seen),
             stood: true,
-        };
-        let shape = self.field.shape();
-        let i = self.sets.reads.len();
-        let word_at = shape.read_word(self.desc, i);
-        let content_at = shape.read_content(self.desc, i);
-        self.pass.store(self.field, word_at, word as u64);
-        self.pass.store(self.field, content_at, read.content);
-        self.sets.reads.push(read);
+        });
     }
 }

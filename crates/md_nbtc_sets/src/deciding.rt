@@ -128,8 +128,9 @@ fn in_progress(reads: u8, serial: u64) -> u64
 /// was aborted: the recorded word that has changed, with its recorded and its found content, or the
 /// status word before and after the abort by another pass.
 ///
-/// It takes one step for each recorded word, up to the first that has changed, one for the
-/// decision, one for each written word, at most three for each kept cleanup, and one more.
+/// It takes one step for each recorded word that isn't written, up to the first that has changed,
+/// one for the decision, one for each written word, at most three for each kept cleanup, and one
+/// more.
 pub fn decided<T: Theory>(
     field: &Field<T>,
     pass: &mut Pass<T>,

@@ -46,6 +46,13 @@ impl Marks {
         self.marks = [UNMARKED; MARKS];
     }
 
+    // Forgets the places: each search begins at the first one then.
+    pub(crate) fn forget(&mut self)
+        ensures { self.new ≡ replicate MARKS 0 }
+    {
+        self.marks = [0; MARKS];
+    }
+
     // Marks a word at a place, unless one of its remainder has an earlier one.
     #[inline]
     pub(crate) fn mark(&mut self, word: u32, place: u8)

@@ -57,7 +57,7 @@ impl Stamps {
     }
 }
 
-/// What a committed transaction had: its tag, and for each read and each write the word with the
+/// What a committed transaction had: its tag, and for each word that it recorded or changed the
 /// count at which it stood when the transaction became ready.
 #[derive(Drop)]
 pub struct Receipt {
@@ -100,9 +100,8 @@ impl Receipt {
         self.tag
     }
 
-    /// The words that it recorded, each once, in the order in which it recorded them, with their
-    /// counts. This is the recorded count, or one more if the transaction changed the word too. It
-    /// takes no step, and copies nothing.
+    /// The words that it recorded and didn't change, each once, in the order in which it recorded
+    /// them, with their counts. It takes no step, and copies nothing.
     pub fn reads(&self) -> &[(u32, u32)]
         ensures { result.now ≡ self.now.reads }
     {

@@ -5,10 +5,10 @@ ghost use Rattle.std.specs.Prelude.{◌≡◌, ◌==◌, ◌<◌, [], ◌∷◌,
 ghost use Rattle.std.specs.Prelude.{false};
 ghost use Rattle.std.specs.List.{list_any};
 ghost use Rattle.md_words.specs.declared.limits.TheConstants.{LANES, SET};
-ghost use Rattle.md_machine.specs.Certified.{content_read};
+ghost use Rattle.md_machine.specs.Certified.{content_read, is_written};
 ghost use Rattle.md_nbtc_law.specs.declared.slots.TheConstants.{NO_LOT, NO_READ, NO_SLOT};
 ghost use Rattle.md_nbtc_law.specs.Cleaning.{with_cleanup};
-ghost use Rattle.md_nbtc_law.specs.Sets.{place_of, renewed_at, with_lot};
+ghost use Rattle.md_nbtc_law.specs.Sets.{place_of, renewed_at, unwritten, with_lot};
 ghost use Rattle.md_nbtc_sets.specs.Sets.{no_sets};
 
 use crate::marks::Marks;
@@ -83,7 +83,8 @@ impl Reads {
         None
     }
 
-    pub(crate) fn get(&self, i: u8) -> Read
+    /// What was recorded at a place, which is below the number of recorded words. It takes no step.
+    pub fn get(&self, i: u8) -> Read
         requires { i < length self.now }
         ensures { result ≡ get_or self.now i NO_READ }
     {
@@ -98,6 +99,23 @@ impl Reads {
         self.items[self.count as usize] = read;
         self.marks.mark(read.word, self.count);
         self.count += 1;
+    }
+
+    /// Forgets the words that have a slot. It takes no step and no memory, and searches the slots
+    /// for each word.
+    pub fn drop_written(&mut self, slots: &Slots)
+        ensures { self.new ≡ unwritten (map (λ s. s.write) slots.now) self.old }
+    {
+        let mut kept = 0;
+        for i in 0..self.count {
+            let read = self.items[i as usize];
+            if !slots.has(read.word) {
+                self.items[kept as usize] = read;
+                kept += 1;
+            }
+        }
+        self.count = kept;
+        self.marks.forget();
     }
 }
 
@@ -159,6 +177,13 @@ impl Slots {
             }
         }
         None
+    }
+
+    /// Whether a word has a slot. It takes no step, and searches at most `SET` slots.
+    pub fn has(&self, word: u32) -> bool
+        ensures { result ≡ is_written (map (λ s. s.write) self.now) word }
+    {
+        self.find(word).is_some()
     }
 
     /// The slot at a place, which is below the number of slots. It takes no step.

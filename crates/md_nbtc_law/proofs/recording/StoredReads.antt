@@ -1,7 +1,8 @@
 -- A transaction stores reads in its descriptor, one after another.
-use Rattle.std.proofs.Common.{◌≡◌, ◌≢◌, ◌++◌, ◌∷◌, ◌<◌, ◌+◌, ℕ, Bool, true, false, not, List, [], length, take, get_or, refl, sym, ap, ◌∙◌, subst, append_assoc, arith, if◌then◌else◌}
-use Rattle.std.proofs.lemmas.List.{append-nil}
+use Rattle.std.proofs.Common.{◌≡◌, ◌≢◌, ◌++◌, ◌∷◌, ◌<◌, ◌≤◌, ◌+◌, ℕ, Bool, true, false, not, List, [], length, take, get_or, refl, sym, ap, ◌∙◌, subst, append_assoc, arith, if◌then◌else◌}
+use Rattle.std.proofs.lemmas.List.{append-nil, length-append, length-take-le, take_all}
 use Rattle.std.proofs.lemmas.List.Elements.{All-append, All-nil, filter_more}
+use Rattle.std.proofs.lemmas.List.Sums.{count_by-le-length, length-filter}
 use Rattle.md_words.specs.declared.limits.TheConstants.{SET}
 use Rattle.md_words.specs.Layout.{Exists, IsInSet, address}
 use Rattle.md_words.specs.Place.{Place, read_content, read_word}
@@ -11,13 +12,17 @@ use Rattle.md_machine.specs.declared.attempt.Write.{Write}
 use Rattle.md_machine.specs.declared.step.Kind.TheVariants.{Store}
 use Rattle.md_machine.specs.declared.step.Step.{Step}
 use Rattle.md_machine.specs.Certified.{is_written}
+use Rattle.md_machine.specs.Meaning.{Meaning}
 use Rattle.md_nbtc_law.specs.declared.slots.TheConstants.{NO_READ}
+use Rattle.md_nbtc_law.specs.Calls.{GoesOn}
 use Rattle.md_nbtc_law.specs.Exchanging.{MakesStores, Stored}
-use Rattle.md_nbtc_law.specs.Prepared.{EachFrom, IsPrepared, IsStoredAt}
+use Rattle.md_nbtc_law.specs.Prepared.{EachFrom, IsPrepared, IsStoredAt, StoresReads}
 use Rattle.md_nbtc_law.specs.Sets.{unwritten}
-use Rattle.md_nbtc_law.specs.State.{TxnState, attempt_in, shape_in}
+use Rattle.md_nbtc_law.specs.State.{TxnState, attempt_in, shape_in, unwritten_reads, writes_in}
+use Rattle.md_nbtc_law.proofs.exchanging.FilledSlot.{both_on}
 use Rattle.md_nbtc_law.proofs.exchanging.MoreSlots.{each_push}
 use Rattle.md_nbtc_law.proofs.nodes.GrownPrepared.{each_on}
+use Rattle.md_nbtc_law.proofs.preparing.Heaps.{goes_self}
 use Rattle.md_nbtc_law.proofs.preparing.StatusApart.{one_place}
 
 -- no store is one, and stores after stores are stores
@@ -107,3 +112,56 @@ pub stored_more : (t u : TxnState) (rs : List Read) (r : Read) → ((j : ℕ) (x
     → IsStoredAt u (length rs) r → EachFrom (IsStoredAt u) 0 (rs ++ r ∷ [])
 stored_more t u rs r keeps each new = each_push (IsStoredAt u) 0 rs r
     (each_on (IsStoredAt t) (IsStoredAt u) 0 rs (λ j x below c is. keeps j x (omega (arith, below)) is) each) (subst (λ n. IsStoredAt u n r) (omega arith) new)
+
+-- the reads up to a place were gone over: the transaction goes on, and stored those of words that it doesn't write, so many
+module _ (M : Meaning) where
+  pub record StoredFirst (t u : TxnState) (i count : ℕ) : Type 0 where
+    pub on : GoesOn M t u
+    pub makes : MakesStores t u
+    pub each : EachFrom (IsStoredAt u) 0 (unwritten (writes_in t) (take i t.reads))
+    pub count_is : count ≡ length (unwritten (writes_in t) (take i t.reads))
+
+  pub stored_begin : (t : TxnState) → StoredFirst t t 0 0
+  stored_begin t = record { on = goes_self M t; makes = stores_none t; each = tt; count_is = refl }
+
+  module _ (t u : TxnState) (i count : ℕ) (s : StoredFirst t u i count) (r : Read) (is : r ≡ get_or t.reads i NO_READ) (inside : i < length t.reads) where
+    -- there are at most as many as places
+    pub count_within : count ≤ i
+    count_within =
+        let kept : Read → Bool = λ x. not (is_written (writes_in t) x.word) in
+        let some = s.count_is in
+        let number = length-filter kept (take i t.reads) in
+        let few = count_by-le-length kept (take i t.reads) in
+        let all = length-take-le i t.reads (omega (arith, inside)) in omega (arith, some, number, few, all)
+
+    pub stored_same : is_written (writes_in t) r.word ≡ true → StoredFirst t u (i + 1) count
+    stored_same written = record {
+      on = s.on;
+      makes = s.makes;
+      each = subst (EachFrom (IsStoredAt u) 0) (sym (none_more (writes_in t) t.reads i r is inside written)) s.each;
+      count_is = s.count_is ∙ ap (λ (l : List Read). length l) (sym (none_more (writes_in t) t.reads i r is inside written));
+    }
+
+    pub stored_next : is_written (writes_in t) r.word ≡ false → (v : TxnState) → GoesOn M u v → MakesStores u v → IsStoredAt v count r
+        → ((j : ℕ) (x : Read) → j < count → IsStoredAt u j x → IsStoredAt v j x) → StoredFirst t v (i + 1) (count + 1)
+    stored_next none v on makes new keeps =
+        let now = one_more (writes_in t) t.reads i r is inside none in
+        let first = unwritten (writes_in t) (take i t.reads) in
+        let some = s.count_is in
+        let long = ap (λ (l : List Read). length l) now in
+        let one = length-append first (r ∷ []) in record {
+          on = both_on M t u v s.on on;
+          makes = stores_over t u v s.makes makes;
+          each = subst (EachFrom (IsStoredAt v) 0) (sym now)
+              (stored_more u v first r (λ j x below. keeps j x (omega (arith, below, some))) s.each (subst (λ n. IsStoredAt v n r) some new));
+          count_is = omega (arith, some, long, one);
+        }
+
+  -- after the last one all are stored
+  pub stored_all : (t u : TxnState) (i count : ℕ) → StoredFirst t u i count → length t.reads ≤ i → StoresReads u × (count ≡ length (unwritten_reads u))
+  stored_all t u i count s end =
+      let same : unwritten_reads u ≡ unwritten (writes_in t) (take i t.reads) =
+      ap (λ (x : TxnState). unwritten_reads x) s.makes.same ∙ ap (unwritten (writes_in t)) (sym (take_all i t.reads end)) in (
+        subst (EachFrom (IsStoredAt u) 0) (sym same) s.each,
+        s.count_is ∙ ap (λ (l : List Read). length l) (sym same),
+      )

@@ -1,21 +1,43 @@
+use Rattle.std.proofs.Common.{ap, ◌∙◌}
 use Rattle.md_machine.specs.declared.attempt.AttemptId.{AttemptId}
-use Rattle.md_nbtc.proofs.Readied.{left_if, under_way, unready_if}
+use Rattle.md_nbtc_law.specs.State.{TxnState}
+use Rattle.md_nbtc_law.proofs.exchanging.FilledSlot.{under_way as goes_under_way}
+use Rattle.md_nbtc.specs.State.{state}
+use Rattle.md_nbtc.proofs.Readied.{left_if, stores_reads, under_way, unready_if}
 use Rattle.md_nbtc.proofs.txn.Txn.leave_ready.Goals as goal
 
 pub made_ready-requires-clause-going : goal.made_ready-requires-clause-going
 made_ready-requires-clause-going g c =
-    let x = c.args.self in
+    let M = g.T.Theory.meaning in
+    let x = c.store_reads-count.new.self in
     let a : AttemptId = record { desc = x.desc; serial = x.serial } in
-    under_way g.T.Theory.meaning x.field.now x.pass.now x.began.value x.sets.now a x.tag x.stop c.requires.runs c.requires.going
+    let none = ap (λ (t : TxnState). t.stop) c.store_reads-count.ensures.makes.same ∙ c.requires.runs in
+    under_way M x.field.now x.pass.now x.began.value x.sets.now a x.tag x.stop none (goes_under_way M (state c.args.self) (state x) c.store_reads-count.ensures.on c.requires.going)
+
+pub made_ready-requires-clause-between : goal.made_ready-requires-clause-between
+made_ready-requires-clause-between g c = ap (λ (t : TxnState). t.hand.operating) c.store_reads-count.ensures.makes.same ∙ c.requires.between
+
+pub made_ready-requires-clause-stored : goal.made_ready-requires-clause-stored
+made_ready-requires-clause-stored g c =
+    let x = c.store_reads-count.new.self in
+    let a : AttemptId = record { desc = x.desc; serial = x.serial } in
+    let none = ap (λ (t : TxnState). t.stop) c.store_reads-count.ensures.makes.same ∙ c.requires.runs in
+    stores_reads g.T.Theory.meaning x.field.now x.pass.now x.began.value x.sets.now a x.tag x.stop none c.store_reads-count.ensures.stored
 
 pub returns-clause-left : goal.returns-clause-left
 returns-clause-left g c =
-    let x = c.args.self in
+    let M = g.T.Theory.meaning in
+    let x = c.store_reads-count.new.self in
     let a : AttemptId = record { desc = x.desc; serial = x.serial } in
-    left_if g.T.Theory.meaning x.field.now x.pass.now x.began.value x.sets.now a x.tag x.stop c.requires.runs c.made_ready.new.pass c.made_ready.result c.made_ready.ensures.ready
+    let e = c.store_reads-count.ensures in
+    let none = ap (λ (t : TxnState). t.stop) e.makes.same ∙ c.requires.runs in
+    left_if M x.field.now x.pass.now x.began.value x.sets.now a x.tag x.stop none (state c.args.self) e.on.later e.makes c.made_ready.new.pass c.made_ready.new.sets c.made_ready.result c.made_ready.ensures.ready
 
 pub returns-clause-refused : goal.returns-clause-refused
 returns-clause-refused g c =
-    let x = c.args.self in
+    let M = g.T.Theory.meaning in
+    let x = c.store_reads-count.new.self in
     let a : AttemptId = record { desc = x.desc; serial = x.serial } in
-    unready_if g.T.Theory.meaning x.field.now x.pass.now x.began.value x.sets.now a x.tag x.stop c.requires.runs c.made_ready.new.pass c.made_ready.result c.made_ready.ensures.refused
+    let e = c.store_reads-count.ensures in
+    let none = ap (λ (t : TxnState). t.stop) e.makes.same ∙ c.requires.runs in
+    unready_if M x.field.now x.pass.now x.began.value x.sets.now a x.tag x.stop none (state c.args.self) e.on.later e.makes c.made_ready.new.pass c.made_ready.new.sets c.made_ready.result c.made_ready.ensures.refused

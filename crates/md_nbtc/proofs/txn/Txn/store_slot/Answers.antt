@@ -37,30 +37,34 @@ slot_new-at_new-requires g c = (
   subst (λ n. n < SET) (sym c.len-slot.ensures) c.requires.room,
 )
 
-pub put_in_slot-requires-2-clause-going : goal.put_in_slot-requires-2-clause-going
-put_in_slot-requires-2-clause-going g c = under_way g.T.Theory.meaning (state c.args.self.now) (state c.put_in_slot.new.self) c.put_in_slot.ensures.on c.requires.going
+-- a part of the next slot may be stored to
+slot_part : (t : TxnState) (at value : ℕ) → MayPutInSlot t at value → MayPut t at value
+slot_part t at value may = inl may
 
-pub put_in_slot-requires-3-clause-going : goal.put_in_slot-requires-3-clause-going
-put_in_slot-requires-3-clause-going g c =
+pub put-requires-2-clause-going : goal.put-requires-2-clause-going
+put-requires-2-clause-going g c = under_way g.T.Theory.meaning (state c.args.self.now) (state c.put.new.self) c.put.ensures.on c.requires.going
+
+pub put-requires-3-clause-going : goal.put-requires-3-clause-going
+put-requires-3-clause-going g c =
     let M = g.T.Theory.meaning in
-    under_way M (state c.put_in_slot.new.self) (state c.put_in_slot-2.new.self) c.put_in_slot-2.ensures.on
-    (under_way M (state c.args.self.now) (state c.put_in_slot.new.self) c.put_in_slot.ensures.on c.requires.going)
+    under_way M (state c.put.new.self) (state c.put-2.new.self) c.put-2.ensures.on
+    (under_way M (state c.args.self.now) (state c.put.new.self) c.put.ensures.on c.requires.going)
 
 pub returns-clause-on : goal.returns-clause-on
 returns-clause-on g c =
     let M = g.T.Theory.meaning in
-    both_on M (state c.args.self.now) (state c.put_in_slot.new.self) (state c.put_in_slot-3.new.self) c.put_in_slot.ensures.on
-    (both_on M (state c.put_in_slot.new.self) (state c.put_in_slot-2.new.self) (state c.put_in_slot-3.new.self) c.put_in_slot-2.ensures.on c.put_in_slot-3.ensures.on)
+    both_on M (state c.args.self.now) (state c.put.new.self) (state c.put-3.new.self) c.put.ensures.on
+    (both_on M (state c.put.new.self) (state c.put-2.new.self) (state c.put-3.new.self) c.put-2.ensures.on c.put-3.ensures.on)
 
 pub returns-clause-only : goal.returns-clause-only
 returns-clause-only g c =
     let t = state c.args.self.now in
-    let t1 = state c.put_in_slot.new.self in
-    let t2 = state c.put_in_slot-2.new.self in
-    let t3 = state c.put_in_slot-3.new.self in
-    let a = c.put_in_slot.ensures.only in
-    let b = c.put_in_slot-2.ensures.only in
-    let d = c.put_in_slot-3.ensures.only in record {
+    let t1 = state c.put.new.self in
+    let t2 = state c.put-2.new.self in
+    let t3 = state c.put-3.new.self in
+    let a = c.put.ensures.only in
+    let b = c.put-2.ensures.only in
+    let d = c.put-3.ensures.only in record {
       same = d.same ∙ ap (λ (x : TxnState). record x { pass = t3.pass }) (b.same ∙ ap (λ (x : TxnState). record x { pass = t2.pass }) a.same);
       given = λ word. both_given t t1 t3 word (a.given word) (both_given t1 t2 t3 word (b.given word) (d.given word));
     }
@@ -69,10 +73,10 @@ pub returns-clause-holds : goal.returns-clause-holds
 returns-clause-holds g c =
     let t = state c.args.self.now in
     let prepared = c.requires.going.1.prepared in
-    let a = c.put_in_slot.ensures in
-    let b = c.put_in_slot-2.ensures in
-    let e = c.put_in_slot-3.ensures in
-    holds_slot t (state c.put_in_slot.new.self) (state c.put_in_slot-2.new.self) (state c.put_in_slot-3.new.self) prepared c.requires.room a.only.same b.only.same e.only.same
+    let a = c.put.ensures in
+    let b = c.put-2.ensures in
+    let e = c.put-3.ensures in
+    holds_slot t (state c.put.new.self) (state c.put-2.new.self) (state c.put-3.new.self) prepared c.requires.room a.only.same b.only.same e.only.same
     c.slot_word-at_word.result c.slot_old-at_old.result c.slot_new-at_new.result
     (place_is t prepared slot_word c.shape.result.now c.shape.ensures c.len-slot.result c.slot_word-at_word.result c.len-slot.ensures c.slot_word-at_word.ensures.place)
     (place_is t prepared slot_old c.shape-2.result.now c.shape-2.ensures c.len-slot.result c.slot_old-at_old.result c.len-slot.ensures c.slot_old-at_old.ensures.place)
