@@ -60,9 +60,8 @@ pub(crate) fn take_node<'a, T: Theory>(
 ///
 /// If the transaction has stopped before, it returns the same stop and does nothing.
 ///
-/// It takes one [`find`]. If the key is there, it takes two steps more if the word is recorded now.
-/// If the key is absent, it takes four steps for the node, and four for the change, or one if the
-/// word is an own one. It takes no memory.
+/// It takes one [`find`]. If the key is absent, it takes four steps for the node, and four for the
+/// change, or one if the word is an own one. It takes no memory.
 ///
 /// After M. M. Michael, "High Performance Dynamic Lock-Free Hash Tables and List-Based Sets"
 /// (2002). It differs from Michael's insert in two ways. A lost exchange isn't tried again, since

@@ -33,8 +33,7 @@ use md_nbtc::Txn;
 /// It never returns `Limit::Nodes`. If the transaction has stopped before, it returns the same stop
 /// and does nothing.
 ///
-/// It takes one [`find`], one step for the value if the key is there, and two more if a word is
-/// recorded now. It takes no memory.
+/// It takes one [`find`], and one step for the value if the key is there. It takes no memory.
 ///
 /// After M. M. Michael, "High Performance Dynamic Lock-Free Hash Tables and List-Based Sets"
 /// (2002). It differs from Michael's search in one way: it records the word that its reply depends

@@ -70,8 +70,7 @@ fn mark<'a, T: Theory>(tx: &mut Txn<'a, T>, found: Found) -> Result<Seen, Stop>
 /// and does nothing.
 ///
 /// It takes one [`find`]. If the key is there, it takes one step for the value, and four for the
-/// mark, or one if the word is an own one. If the key isn't there, it takes two steps more if the
-/// word is recorded now. It takes no memory.
+/// mark, or one if the word is an own one. It takes no memory.
 ///
 /// After M. M. Michael, "High Performance Dynamic Lock-Free Hash Tables and List-Based Sets"
 /// (2002). It differs from Michael's delete in three ways. A lost exchange isn't tried again, since

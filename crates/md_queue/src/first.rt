@@ -111,10 +111,9 @@ fn read_first<'a, T: HasQueues>(tx: &mut Txn<'a, T>, queue: u32, first: First) -
 /// It never returns `Limit(Nodes)` or `Limit(Writes)`. If the transaction has stopped before, it
 /// returns the same stop and does nothing.
 ///
-/// It takes five steps: two loads, the value, and two for a note. If the queue is empty, it takes
-/// six: two loads, and two notes. A note of a word that is recorded already takes no step. A load
-/// takes more steps if another's descriptor stands in the word (`Txn::load`). The call takes no
-/// memory.
+/// It takes three steps: two loads, and the value. If the queue is empty, it takes two loads. A
+/// load takes more steps if another's descriptor stands in the word (`Txn::load`). The call takes
+/// no memory.
 ///
 /// Michael and Scott's queue has no such operation. It is their dequeue without the change.
 pub fn front<'a, T: HasQueues>(tx: &mut Txn<'a, T>, queue: u32) -> Result<Option<u64>, Stop>
@@ -203,10 +202,9 @@ fn take_first<'a, T: HasQueues>(tx: &mut Txn<'a, T>, queue: u32, first: First) -
 /// and does nothing.
 ///
 /// It takes eight steps: three loads, the value, and four to change the head. If the queue is
-/// empty, it takes six: two loads, and two notes of two steps. If the tail must be moved, it takes
-/// one more, or four if the move is a part of the transaction. It takes fewer if a word is recorded
-/// already or is an own one. A load takes more steps if another's descriptor stands in the word
-/// (`Txn::load`). The call takes no memory.
+/// empty, it takes two loads. If the tail must be moved, it takes one more, or four if the move is
+/// a part of the transaction. It takes fewer if a word is an own one. A load takes more steps if
+/// another's descriptor stands in the word (`Txn::load`). The call takes no memory.
 ///
 /// After M. M. Michael and M. L. Scott, "Simple, Fast, and Practical Non-Blocking and Blocking
 /// Concurrent Queue Algorithms" (1996), with three differences. It doesn't look at the head again

@@ -87,9 +87,8 @@ fn pass_next<'a, T: HasQueues>(tx: &mut Txn<'a, T>, node: u32) -> Result<Option<
 /// It never returns `Limit(Nodes)` or `Limit(Writes)`. If the transaction has stopped before, it
 /// returns the same stop and does nothing.
 ///
-/// It takes three steps for the head: a load, and two for the note. It takes two for each value: a
-/// load, and the value. It takes three for a next word that is 0. A note of a word that is recorded
-/// already takes no step. A load takes more steps if another's descriptor stands in the word
+/// It takes one step for the head, two for each value, a load and the value, and one for a next
+/// word that is 0. A load takes more steps if another's descriptor stands in the word
 /// (`Txn::load`). The call takes no memory.
 ///
 /// This is Medley's own. Michael and Scott's queue has no look at more than one value.
