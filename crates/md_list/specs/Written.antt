@@ -1,13 +1,8 @@
 -- How many more words an operation of a list may write.
-use Rattle.std.specs.Prelude.{◌≤◌, ◌+◌, ℕ, List, filter, length, not}
-use Rattle.md_machine.specs.declared.attempt.Read.{Read}
-use Rattle.md_machine.specs.Certified.{is_written}
-use Rattle.md_nbtc_law.specs.State.{TxnState, writes_in}
+use Rattle.std.specs.Prelude.{◌≤◌, ◌+◌, ℕ, length}
+use Rattle.md_nbtc_law.specs.State.{TxnState, unwritten_reads}
 
 -- the words that a transaction recorded or writes, each counted once
-abbrev pub unwritten_reads : TxnState → List Read
-unwritten_reads t = filter (λ r. not (is_written (writes_in t) r.word)) t.reads
-
 abbrev pub touched : TxnState → ℕ
 touched t = length t.slots + length (unwritten_reads t)
 

@@ -12,11 +12,11 @@ use Rattle.md_machine.specs.Meaning.{Meaning}
 use Rattle.md_machine.proofs.lists.Differ.{no_pairs}
 use Rattle.md_machine.proofs.lists.Rising.{filter_in, map_in, there as further}
 use Rattle.md_nbtc_law.specs.declared.slots.Slot.{Slot}
-use Rattle.md_nbtc_law.specs.State.{OwnNode, TxnState, shape_in, writes_in}
+use Rattle.md_nbtc_law.specs.State.{OwnNode, TxnState, shape_in, unwritten_reads, writes_in}
 use Rattle.md_nbtc_law.proofs.exchanging.MoreSlots.{written_push}
 use Rattle.md_nbtc_law.proofs.ready.Lookups.{written_found}
 use Rattle.md_list_law.specs.ListShape.{next_word}
-use Rattle.md_list.specs.Written.{WritesFew, unwritten_reads}
+use Rattle.md_list.specs.Written.{WritesFew}
 use Rattle.md_list.proofs.walking.At.{IsBehind}
 use Rattle.md_list.proofs.walking.Counting.{few_among}
 
