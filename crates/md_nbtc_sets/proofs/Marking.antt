@@ -1,5 +1,5 @@
 -- Marks of words: a word has no place before its mark, and one more word gets a mark that isn't later than its place.
-use Rattle.std.proofs.Common.{◌≡◌, ◌==◌, ◌<◌, ◌≤◌, ◌+◌, ◌%◌, ℕ, zero, suc, false, List, [], ◌∷◌, ◌++◌, map, eqb-true, Some, None, length, take, get_or, slice_set, refl, sym, ap, ◌∙◌, subst, arith, inl, inr}
+use Rattle.std.proofs.Common.{◌≡◌, ◌==◌, ◌<◌, ◌≤◌, ◌+◌, ◌%◌, ℕ, zero, suc, false, List, [], ◌∷◌, ◌++◌, map, eqb-true, Some, None, length, replicate, take, get_or, slice_set, refl, sym, ap, ◌∙◌, subst, arith, inl, inr}
 use Rattle.std.proofs.lemmas.Bool.{cases_Bool, cond-false}
 use Rattle.std.proofs.lemmas.List.{length-map, length-take-le}
 use Rattle.md_machine.specs.declared.attempt.Read.{Read}
@@ -78,3 +78,16 @@ marked_more f items n x marks marks' below marked lower are =
     let all : length (take n (map f items)) ≡ n = length-take-le n (map f items) (omega (arith, below, length-map items f)) in
     subst (λ k. AreMarked marks' (take k (map f (slice_set items n x)))) e
     (subst (AreMarked marks') (sym (words_one f items n x below)) (marked_and marks marks' (take n (map f items)) (f x) 0 (omega (arith, marked, all)) lower are))
+
+-- where each mark is that of the first place, any words are marked
+zeros : (n i : ℕ) → get_or (replicate n 0) i 0 ≡ 0
+zeros zero i = refl
+zeros (suc n) zero = refl
+zeros (suc n) (suc i) = zeros n i
+
+first_marked : (words : List ℕ) (place : ℕ) → AreMarkedFrom (replicate MARKS 0) words place
+first_marked [] place = tt
+first_marked (w ∷ ws) place = (let first = zeros MARKS (w % MARKS) in omega (arith, first), first_marked ws (place + 1))
+
+pub all_marked : (marks words : List ℕ) → marks ≡ replicate MARKS 0 → AreMarked marks words
+all_marked marks words is = subst (λ m. AreMarked m words) (sym is) (first_marked words 0)
