@@ -33,7 +33,7 @@ use Rattle.md_nbtc_law.specs.declared.slots.Slot.{Slot}
 use Rattle.md_nbtc_law.specs.Cleaning.{IsKeptCleanup}
 use Rattle.md_nbtc_law.specs.Course.{ChangesAreWrites, IsCourse, IsStoredNode, last_new}
 use Rattle.md_nbtc_law.specs.Going.{IsGoing, IsUnplaced}
-use Rattle.md_nbtc_law.specs.Prepared.{IsHeld, IsPrepared, IsPreparedNode, LastOn}
+use Rattle.md_nbtc_law.specs.Prepared.{IsHeld, IsPrepared, IsPreparedNode, LastOn, IsRecorded}
 use Rattle.md_nbtc_law.specs.Seeing.{MayChange}
 use Rattle.md_nbtc_law.proofs.preparing.Out.{out_begun}
 use Rattle.md_nbtc_law.proofs.preparing.StatusApart.{base_apart}

@@ -38,7 +38,7 @@ stores_over t u v a b = record {
 }
 
 -- which read of a descriptor a place is of
-number_of : Place → ℕ
+abbrev number_of : Place → ℕ
 number_of (read_word desc i) = i
 number_of (read_content desc i) = i
 number_of _ = 0
