@@ -1,6 +1,9 @@
 pub mod Digits
 pub mod ByCaller
 pub mod Keeps
+pub mod FieldTerms
+pub mod RecordKinds
+pub mod Orders
 pub mod Lines
 pub mod Rows
 pub mod Numbered
