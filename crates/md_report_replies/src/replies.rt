@@ -9,7 +9,8 @@ ghost use Rattle.md_report_replies.specs.Replies.{SuitTheirLines};
 ghost use Rattle.md_report_replies.specs.Rooms.{unset_rooms, new_reply, reply_in};
 
 use crate::all_rooms::rooms_of_callers;
-use crate::packed::PackedReplies;
+use crate::packed::set_each;
+use crate::packed_replies::PackedReplies;
 use crate::rooms::{Head, NewReply, ReplyRooms, reply_in};
 use md_book::BookReply;
 use md_orders::{Scripts, commands_are_named};
@@ -30,7 +31,9 @@ pub struct Replies {
 
 impl Model for Replies {
     ghost use Rattle.std.specs.Prelude.{◌≡◌};
-    ghost use Rattle.md_orders.specs.Scripts.{AreNamed};
+    ghost use Rattle.md_book.specs.OrderRules.{order_rules};
+    ghost use Rattle.md_book.specs.Rules.{AreNamedAt};
+    ghost use Rattle.md_orders.specs.Scripts.{at_line};
     ghost use Rattle.md_report_replies.specs.Replies.{RepliesState};
     ghost use Rattle.md_report_replies.specs.Rooms.{sizes_of, sizes_in, replies_of};
 
@@ -40,7 +43,7 @@ impl Model for Replies {
 
     // Each line's room is that of its command, which is in range.
     ghost invariant = { λ r. (sizes_in r.callers.items ≡ sizes_of r.of.value)
-        × AreNamed r.of.value };
+        × AreNamedAt order_rules (at_line r.of.value) };
 }
 
 // The places of all lines of scripts, from the rooms of each caller, without a reply.
@@ -98,7 +101,8 @@ impl Replies {
           replies = with_replies self.old.replies caller done replies.now;
         } }
     {
-        replies.set_in(self, caller, done);
+        let (heads, numbers) = replies.told();
+        set_each(self, caller, done, heads, numbers);
     }
 
     /// The head and the room of a line. They are its reply, if it has one.
