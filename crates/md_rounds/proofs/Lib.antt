@@ -1,10 +1,10 @@
-mod Names
+pub mod Naming
 pub mod Folding
-mod TradingDay
 mod Suiting
 mod Keeping
 pub mod Pigeons
 pub mod BookLaws
+pub mod Opening
 mod Holding
 mod Listing
 mod Walking

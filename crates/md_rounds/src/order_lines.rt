@@ -2,25 +2,25 @@
 
 ghost use Rattle.std.specs.Prelude.{length};
 ghost use Rattle.std.specs.Option.{IsSomeAnd};
-ghost use Rattle.md_book.specs.Suits.{Suits};
-ghost use Rattle.md_book.specs.Meets.{command_bounds};
+ghost use Rattle.md_book.specs.Rules.{without_orders};
 ghost use Rattle.md_orders.specs.Scripts.{at_line};
 ghost use Rattle.md_rounds.specs.OrderLines.{line_count_of, has-line, no-lines};
-ghost use Rattle.md_rounds.specs.Replay.{no_orders};
-ghost use Rattle.md_rounds.specs.Traded.{HasTraded, MOST_NODES};
+ghost use Rattle.md_rounds.specs.Traded.{HasTraded};
 
-use md_book::Command;
 use md_many::{LawfulLines, Lines};
-use md_orders::Scripts;
+use md_orders::{ScriptCommand, Scripts};
 
 /// The commands of scripts, each a caller's line.
 #[derive(Clone, Copy)]
-pub(crate) struct OrderLines<'a> {
-    pub(crate) scripts: &'a Scripts,
+pub(crate) struct OrderLines<'a, C: ScriptCommand> {
+    pub(crate) scripts: &'a Scripts<C>,
 }
 
-impl Lines for OrderLines<'_> {
-    type B = Command;
+impl<C: ScriptCommand + Sync> Lines for OrderLines<'_, C>
+where
+    C::Reply: Sync,
+{
+    type B = C;
 
     ghost caller_count = { λ l. length l.scripts.now };
 
@@ -36,7 +36,7 @@ impl Lines for OrderLines<'_> {
         self.scripts.len(caller)
     }
 
-    fn body(&self, caller: u32, line: u32) -> Option<Command> {
+    fn body(&self, caller: u32, line: u32) -> Option<C> {
         self.scripts.command(caller, line)
     }
 
@@ -45,15 +45,18 @@ impl Lines for OrderLines<'_> {
     ghost has_caller = { λ l caller other. no-lines l.scripts.now caller other };
 }
 
-impl LawfulLines for OrderLines<'_> {
-    ghost opening = { λ l. no_orders };
+impl<C: ScriptCommand + Sync> LawfulLines for OrderLines<'_, C>
+where
+    C::Reply: Sync,
+{
+    ghost opening = { λ l. without_orders C.book_rules };
 
-    ghost good = { λ l s tags. HasTraded l.scripts.now s tags };
+    ghost good = { λ l s tags. HasTraded C.book_rules l.scripts.now s tags };
 
     ghost suits = { λ l caller line r.
-        IsSomeAnd (at_line l.scripts.now caller line) (λ c. Suits (c, r)) };
+        IsSomeAnd (at_line l.scripts.now caller line) (λ c. C.book_rules.suits (c, r)) };
 
-    ghost cost = { λ l. command_bounds };
+    ghost cost = { λ l. C.book_rules.bounds };
 
-    ghost most = { λ l. MOST_NODES };
+    ghost most = { λ l. C.book_rules.most };
 }
