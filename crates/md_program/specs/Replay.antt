@@ -4,9 +4,11 @@ use Rattle.md_history.specs.Front.{Front}
 use Rattle.md_book.specs.declared.commands.Command.{Command}
 use Rattle.md_book.specs.declared.commands.BookReply.{BookReply}
 use Rattle.md_book.specs.Book.{Book}
+use Rattle.md_book.specs.OrderRules.{order_market}
 use Rattle.md_orders.specs.Records.{order_records, AreFewRecords}
 use Rattle.md_orders.specs.Scripts.{AreScripts}
-use Rattle.md_report.specs.Report.{report_text}
+use Rattle.md_orders.specs.Orders.{order_grammar}
+use Rattle.md_report.specs.Report.{reply_text, report_text}
 use Rattle.md_orders.specs.Generator.{AreMade}
 use Rattle.md_report.specs.Summary.{summary_text}
 use Rattle.md_rounds.specs.Replay.{IsPlayed}
@@ -17,11 +19,11 @@ use Rattle.md_program_edge.specs.declared.words.Making.{Making}
 pub record IsReplay (callers : ℕ) (bytes : List ℕ) (fronts : List Front) (text : List ℕ) : Type 0 where
   pub few : AreFewRecords (order_records bytes)
   pub scripts : List (List Command)
-  pub written : AreScripts callers (order_records bytes) scripts
+  pub written : AreScripts order_grammar callers (order_records bytes) scripts
   pub replies : List (List (Option BookReply))
   pub book : Book
-  pub played : IsPlayed scripts fronts replies book
-  pub report : text ≡ report_text scripts replies book
+  pub played : IsPlayed order_market scripts fronts replies book
+  pub report : text ≡ report_text reply_text scripts replies book
 
 -- the scripts were made, and were played, and the text is the summary of the replies and of the book
 pub record IsSummed (callers : ℕ) (making : Making) (fronts : List Front) (text : List ℕ) : Type 0 where
@@ -29,5 +31,5 @@ pub record IsSummed (callers : ℕ) (making : Making) (fronts : List Front) (tex
   pub made : AreMade making.number making.lines callers scripts
   pub replies : List (List (Option BookReply))
   pub book : Book
-  pub played : IsPlayed scripts fronts replies book
+  pub played : IsPlayed order_market scripts fronts replies book
   pub summary : text ≡ summary_text scripts replies book

@@ -3,7 +3,9 @@
 ghost use Rattle.std.specs.Prelude.{◌≡◌, ◌≢◌, ◌≤◌, ◌↔◌, Some, ℕ, map};
 ghost use Rattle.std.specs.Prelude.{IfOk, IfErr, IsErrOf};
 ghost use Rattle.std.specs.Thread.{IsSync};
+ghost use Rattle.md_book.specs.OrderRules.{order_rules};
 ghost use Rattle.md_orders.specs.Grammar.{first_bad};
+ghost use Rattle.md_orders.specs.Orders.{order_grammar};
 ghost use Rattle.md_orders.specs.Records.{order_records, AreFewRecords};
 ghost use Rattle.md_report.specs.Report.{whole_text};
 ghost use Rattle.md_orders.specs.Scripts.{AreScripts};
@@ -14,7 +16,8 @@ ghost use Rattle.md_program_edge.specs.Words.{texts};
 ghost use Rattle.md_program_edge.specs.Options.{AreInRange, Write};
 ghost use Rattle.md_program.specs.Words.{AreAccepted};
 ghost use Rattle.md_program.specs.Replay.{IsSummed};
-ghost use Rattle.md_program.specs.Run.{Answers, EndsWell, HasPlayed, StopsReplay, StopsWith, IsReplayed};
+ghost use Rattle.md_program.specs.Run.{Answers, EndsWell, HasPlayed, StopsReplay, StopsWith};
+ghost use Rattle.md_program.specs.Run.{IsReplayed};
 ghost use Rattle.md_program.specs.Run.{RefusesWords, ToldAlone};
 
 use crate::play::{open_for, play};
@@ -63,16 +66,17 @@ where
             requires sync { IsSync R.row }
             requires range { (1 ≤ callers) × (callers ≤ MAX_CALLER) }
             ensures scripts { IfOk result (λ scripts. AreFewRecords (order_records records.entry.now)
-                × AreScripts callers (order_records records.entry.now) scripts) }
+                × AreScripts order_grammar callers (order_records records.entry.now) scripts) }
             ensures too_many { IsErrOf result OrderFault.TooMany
                 → ¬ AreFewRecords (order_records records.entry.now) }
             ensures bad_line { (n : ℕ) → IsErrOf result (OrderFault.BadLine n)
                 → AreFewRecords (order_records records.entry.now)
-                × (first_bad callers (order_records records.entry.now) ≡ Some n) }
+                × (first_bad order_grammar callers (order_records records.entry.now) ≡ Some n) }
         { read_orders_in_threads(rt, alloc, records, callers) },
         move || -> Result<OpenStore, AllocError>
             requires in_range { AreInRange options.now }
-            ensures { IfOk result (λ o. IsOpenFor options.entry.now.callers o.store o.pass) }
+            ensures { IfOk result (λ o.
+                IsOpenFor order_rules options.entry.now.callers o.store o.pass) }
         { open_for(alloc, options, count) },
     );
     let scripts = scripts?;
