@@ -216,7 +216,7 @@ first-bad grammar callers rows count version scripts (Some m) n told some other 
     let same : m ≡ n = cc some in
     let at : first_bad_line grammar First callers 1 rows ≡ Some n = noted.noted ∙ ap Some same in
     let file = ap (λ known. file_as known rows) told
-        ∙ file-first grammar callers rows (λ e. let one = same_number n 1 (sym at ∙ e) in absurd (omega arith)) in
+    ∙ file-first grammar callers rows (λ e. let one = same_number n 1 (sym at ∙ e) in absurd (omega arith)) in
     rw file at
   where
     same_number : (a b : ℕ) → Some a ≡ Some b → a ≡ b

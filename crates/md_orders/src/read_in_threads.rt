@@ -106,7 +106,13 @@ where
     ensures { IsReadAs C.grammar callers (version_record ∷ order_records lines.now) result }
 {
     scripts_of_version_2(read_parts(
-        rt, alloc, lines, callers, Version::Second, parts, PhantomData,
+        rt,
+        alloc,
+        lines,
+        callers,
+        Version::Second,
+        parts,
+        PhantomData,
     )?)
 }
 
@@ -145,8 +151,15 @@ where
     if let Some(lines) = lines_of_version_2(bytes) {
         return read_version_2(rt, alloc, lines, callers, parts);
     }
-    let notes: Notes<C> =
-        read_parts(rt, alloc, bytes, callers, Version::First, parts, PhantomData)?;
+    let notes: Notes<C> = read_parts(
+        rt,
+        alloc,
+        bytes,
+        callers,
+        Version::First,
+        parts,
+        PhantomData,
+    )?;
     match notes.bad {
         None => Ok(notes.scripts),
         Some(number) if number > 1 => Err(OrderFault::BadLine(number)),

@@ -101,11 +101,7 @@ fn joined_by_caller<C: Copy + Drop>(
 impl<C: ScriptCommand> Scripts<C> {
     /// Empty scripts for `callers` callers, with room for `room` commands of each: any number.
     /// `AllocError` if memory runs out.
-    pub(crate) fn empty(
-        alloc: Global,
-        callers: u32,
-        room: u32,
-    ) -> Result<Scripts<C>, AllocError>
+    pub(crate) fn empty(alloc: Global, callers: u32, room: u32) -> Result<Scripts<C>, AllocError>
         ensures { IfOk result (λ s. s ≡ replicate callers []) }
     {
         let scripts = no_commands(alloc, callers, room)?;

@@ -71,7 +71,7 @@ named-by market scripts named (t ∷ ts) (c ∷ cs) lines =
     let caller = t / 2 ^ 32 in
     let line = t % 2 ^ 32 in
     let lawful = if_some (at_line scripts caller line) c (λ d. market.rules.is_command d × market.rules.is_named (name_of caller line) d)
-        lines.0 (named caller line) in
+    lines.0 (named caller line) in
     (lawful.0, subst (λ n. market.rules.is_named n c) (tag-parts t) lawful.1, named-by market scripts named ts cs lines.1)
 named-by market scripts named [] (c ∷ cs) lines = absurd lines
 named-by market scripts named (t ∷ ts) [] lines = absurd lines
@@ -106,7 +106,7 @@ module _ {C R : Type 0} (market : Market C R) (laws : IsLawful market) where
       subst (λ d. market.rules.suits (c, market.rules.reply d c)) (sym (laws.after_none b)) first.0
   last-suits (d ∷ cs) b c all =
       let more = subst (λ rs. AllByRecursion market.rules.suits (zip (d ∷ (cs ++ c ∷ [])) rs))
-          (laws.replies_more b d (cs ++ c ∷ [])) all in
+      (laws.replies_more b d (cs ++ c ∷ [])) all in
       subst (λ e. market.rules.suits (c, market.rules.reply e c)) (sym (laws.after_more b d cs))
       (last-suits cs (market.rules.next b d) c more.1)
 

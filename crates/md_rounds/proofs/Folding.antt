@@ -37,8 +37,8 @@ module _ {C R : Type 0} (market : Market C R) (laws : IsLawful market) where
       let may = laws.takes b c e.tag named.1 apart.0 (omega arith) in
       let meets = laws.meets s b c e.acts r stands named.0 may did.0 (right-first s e.acts (acts_of es) right) in
       let more = folds (run s e.acts) next es cs rs meets.stands named.2 different.1
-          (apart-step market laws b c e.tag (tags_of es) named.1 apart.1 different.0)
-          (omega (arith, few-step market laws b c e.tag named.1)) did.1 (right-rest s e.acts (acts_of es) right) in
+      (apart-step market laws b c e.tag (tags_of es) named.1 apart.1 different.0)
+      (omega (arith, few-step market laws b c e.tag named.1)) did.1 (right-rest s e.acts (acts_of es) right) in
       record {
         replies =
             ap (λ x. x ∷ rs) meets.reply ∙ ap (λ xs. market.rules.reply b c ∷ xs) more.replies

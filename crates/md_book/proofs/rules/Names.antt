@@ -54,9 +54,11 @@ none-orders t (o ∷ os) h = (h.0, none-orders t os h.1)
 -- a book can take a command that has a new name
 pub may-take : (b : Book) (c : Command) (name : ℕ) → IsNamed name c → HasNone name (names_in b)
     → length b.orders + 1 < 2 ^ 32 → MayTake b c
-may-take b (Place n account side price quantity) name is none room =
-    (All-from_recursion (λ (o : Order). o.name ≢ n) b.orders
-    (none-orders n b.orders (subst (λ m. HasNone m (names_in b)) (sym is) none)), room)
+may-take b (Place n account side price quantity) name is none room = (
+  All-from_recursion (λ (o : Order). o.name ≢ n) b.orders
+      (none-orders n b.orders (subst (λ m. HasNone m (names_in b)) (sym is) none)),
+  room,
+)
 may-take b (Cancel order) name is none room = tt
 may-take b (Fill account side price quantity places) name is none room = tt
 may-take b (Kill account side price quantity places) name is none room = tt

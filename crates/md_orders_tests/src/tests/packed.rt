@@ -87,7 +87,8 @@ fn all_packed<R: Abort + AllocGlobal>(rt: &R) -> PackedReplies {
 #[test]
 fn each_reply_is_told_as_it_was(rt: HostRuntime) {
     let packed = all_packed(&rt);
-    let lengths = (PackedReplies::new(rt.alloc()).is_empty(), packed.len());
+    let none: PackedReplies = PackedReplies::new(rt.alloc());
+    let lengths = (none.is_empty(), packed.len());
     let orders = b"1,A,7\n1,A,7\n1,A,7\n1,A,7\n1,A,7\n1,A,7\n1,A,7\n1,A,7\n1,A,7\n\
         1,A,7\n1,A,7\n1,A,7\n1,A,7\n1,A,7\n1,A,7\n1,A,7\n1,A,7\n1,A,7\n"
         .as_slice();

@@ -99,7 +99,11 @@ fn the_first_record_that_breaks_the_grammar_is_told(rt: HostRuntime) {
         3,D,B,1=BadLine(1)|\
         1,P,7,S,100,5\n\n1,P,7,X,100,5\n1,D,Y,1\n=BadLine(2)";
     read_as_told(&rt, 2, files);
-    is_bad_line(&rt, read_orders::<Command>(rt.alloc(), b"1,\xff,S,100", 2).err(), 1);
+    is_bad_line(
+        &rt,
+        read_orders::<Command>(rt.alloc(), b"1,\xff,S,100", 2).err(),
+        1,
+    );
 }
 
 #[test]
