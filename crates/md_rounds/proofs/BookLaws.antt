@@ -1,11 +1,10 @@
 -- The laws of a book's lines.
-use Rattle.std.proofs.Common.{◌≡◌, ◌≢◌, ◌+◌, ◌<◌, ◌≤◌, ◌^◌, ℕ, zero, suc, Option, Some, None, IsSome, List, [], ◌∷◌, ◌++◌, length, refl, sym, ap, subst, ◌∙◌, arith}
+use Rattle.std.proofs.Common.{◌≡◌, ◌≢◌, ◌<◌, ◌≤◌, ◌^◌, ℕ, zero, suc, Option, Some, None, IsSome, List, [], ◌∷◌, ◌++◌, length, refl, sym, ap, subst, ◌∙◌, arith}
 use Rattle.std.specs.Prelude.{◌/◌, ◌%◌, IfSome}
 use Rattle.std.specs.List.{zip, AllByRecursion}
 use Rattle.std.specs.Option.{IsSomeAnd}
 use Rattle.std.proofs.lemmas.List.Elements.{recursion_from_All}
-use Rattle.md_history.specs.declared.acts.Act.{Act}
-use Rattle.md_history.specs.State.{State, run, IsRight}
+use Rattle.md_history.specs.State.{State, run}
 use Rattle.md_history.specs.Counts.{IsSmall}
 use Rattle.md_book.specs.Book.{Book, empty_book}
 use Rattle.md_book.specs.Commands.{name_of}

@@ -1,5 +1,5 @@
 -- The names of a book's orders, and tags that are different from them, by rules that keep their laws.
-use Rattle.std.proofs.Common.{◌≡◌, ◌≢◌, ◌+◌, ◌≤◌, ◌++◌, ◌∷◌, ℕ, List, [], length, sym, ap, subst, arith, inl, inr}
+use Rattle.std.proofs.Common.{◌≢◌, ◌+◌, ◌≤◌, ◌++◌, ◌∷◌, ℕ, List, [], length, sym, ap, subst, arith, inl, inr}
 use Rattle.std.proofs.lemmas.List.{length-map, length_push}
 use Rattle.md_book.specs.Book.{Order, Book}
 use Rattle.md_book.specs.Rules.{HasNone, AreNamedBy, Market, IsLawful, names_in}

@@ -1,5 +1,5 @@
 -- The rules of the matching book keep their laws.
-use Rattle.std.proofs.Common.{◌≡◌, refl, arith}
+use Rattle.std.proofs.Common.{refl, arith}
 use Rattle.md_book.specs.Rules.{IsLawful}
 use Rattle.md_match.specs.MatchRules.{match_market}
 use Rattle.md_match.proofs.rules.Days.{are-a-day}

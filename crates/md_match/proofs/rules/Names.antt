@@ -1,5 +1,5 @@
 -- The names of a matching book's orders before and after a command.
-use Rattle.std.proofs.Common.{◌≡◌, ◌≢◌, ◌+◌, ◌<◌, ◌^◌, ◌∙◌, ◌++◌, ◌∷◌, ℕ, List, [], length, map, Option, Some, None, refl, sym, ap, subst, inl, inr}
+use Rattle.std.proofs.Common.{◌≡◌, ◌≢◌, ◌+◌, ◌<◌, ◌^◌, ◌∙◌, ◌++◌, ◌∷◌, ℕ, [], length, Option, Some, None, refl, sym, ap, subst, inl, inr}
 use Rattle.std.proofs.lemmas.List.{map_push}
 use Rattle.std.proofs.lemmas.List.Elements.{All-from_recursion}
 use Rattle.md_book.specs.Book.{Order, Book, find_open}
@@ -9,7 +9,7 @@ use Rattle.md_book.proofs.rules.Names.{none-orders}
 use Rattle.md_match.specs.declared.commands.MatchCommand.{MatchCommand}
 use Rattle.md_match.specs.declared.commands.MatchCommand.TheVariants.{Match, Cancel, Depth}
 use Rattle.md_match.specs.declared.limits.TheConstants.{MAX_LOOKS}
-use Rattle.md_match.specs.Matching.{sweep, settle, cancel_match, match_step}
+use Rattle.md_match.specs.Matching.{sweep, cancel_match, match_step}
 use Rattle.md_match.specs.MatchRules.{IsMatchNamed}
 use Rattle.md_match.specs.Meets.{MayMatch}
 use Rattle.md_match.proofs.sweeps.Sweeps.{settle-either}
