@@ -8,3 +8,5 @@ pub mod Meets
 pub mod Trading
 pub mod Suits
 pub mod Places
+pub mod Rules
+pub mod OrderRules

@@ -7,6 +7,7 @@
 
 mod accounts;
 mod body;
+mod book_commands;
 mod cancel;
 mod commands;
 mod depths;
@@ -18,10 +19,12 @@ mod levels;
 mod limits;
 mod maps;
 mod names;
+mod order_rules;
 mod packing;
 mod parts;
 mod place;
 
+pub use book_commands::BookCommand;
 pub use commands::{BookReply, Command, Part, Side};
 pub use fronts::{Look, look_front};
 pub use laws::{

@@ -3,3 +3,4 @@ pub mod trading
 pub mod scripts
 pub mod prices
 pub mod steps
+pub mod rules

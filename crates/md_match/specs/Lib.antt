@@ -7,3 +7,4 @@ pub mod Stands
 pub mod Scripts
 pub mod Sweeping
 pub mod Meets
+pub mod MatchRules

@@ -14,6 +14,7 @@ mod depths;
 mod laws;
 mod limits;
 mod maps;
+mod match_rules;
 mod matching;
 mod sweeping;
 

@@ -85,7 +85,7 @@ count_of-add lists (suc c) x low high =
     omega arith
 
 -- no caller has more lines than all have
-pub length-list_of-le : (lists : List (List Command)) (caller : ℕ) → length (list_of lists caller) ≤ count_of lists
+pub length-list_of-le : {A : Type 0} (lists : List (List A)) (caller : ℕ) → length (list_of lists caller) ≤ count_of lists
 length-list_of-le lists zero = omega arith
 length-list_of-le lists (suc c) = elim (cases_Bool (nat_lt c (length lists))) [
   | inl inside ↦ get_or-le-sum_by length lists c [] (ltb-true c (length lists) inside)

@@ -4,8 +4,8 @@ use Rattle.std.specs.Prelude.{filter, slice_get, slice_index_or, slice_set, sum_
 use Rattle.std.specs.List.{filter_map, enumerate_from}
 use Rattle.std.specs.Option.{option_map_or}
 use Rattle.md_book.specs.declared.commands.Command.{Command}
-use Rattle.md_book.specs.declared.commands.Command.TheVariants.{Place, Cancel, Fill, Kill, Depth, Account}
 use Rattle.md_book.specs.Commands.{IsCommand, name_of}
+pub use Rattle.md_book.specs.OrderRules.{IsNamed}
 use Rattle.md_orders.specs.declared.version.Version.{Version}
 use Rattle.md_orders.specs.Records.{Row, max_records}
 use Rattle.md_orders.specs.Version.{file_of}
@@ -49,17 +49,8 @@ pub record AreScripts (callers : ℕ) (rows : List Row) (scripts : List (List Co
       → list_of scripts caller ≡ script_in (file_of rows).version callers (file_of rows).lines caller
 
 -- how many commands there are
-abbrev pub count_of : List (List Command) → ℕ
+abbrev pub count_of : {A : Type 0} → List (List A) → ℕ
 count_of scripts = sum_by length scripts
-
--- an order that a command places has this name
-abbrev pub IsNamed : ℕ → Command → Type 0
-IsNamed name (Place n account side price quantity) = n ≡ name
-IsNamed name (Cancel order) = Unit {0}
-IsNamed name (Fill account side price quantity places) = Unit {0}
-IsNamed name (Kill account side price quantity places) = Unit {0}
-IsNamed name (Depth side price) = Unit {0}
-IsNamed name (Account account) = Unit {0}
 
 -- each command is in range, and each order has the name of its caller and line
 abbrev pub AreNamed : List (List Command) → Type 0

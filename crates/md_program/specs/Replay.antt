@@ -4,6 +4,7 @@ use Rattle.md_history.specs.Front.{Front}
 use Rattle.md_book.specs.declared.commands.Command.{Command}
 use Rattle.md_book.specs.declared.commands.BookReply.{BookReply}
 use Rattle.md_book.specs.Book.{Book}
+use Rattle.md_book.specs.OrderRules.{order_market}
 use Rattle.md_orders.specs.Records.{order_records, AreFewRecords}
 use Rattle.md_orders.specs.Scripts.{AreScripts}
 use Rattle.md_report.specs.Report.{report_text}
@@ -20,7 +21,7 @@ pub record IsReplay (callers : ℕ) (bytes : List ℕ) (fronts : List Front) (te
   pub written : AreScripts callers (order_records bytes) scripts
   pub replies : List (List (Option BookReply))
   pub book : Book
-  pub played : IsPlayed scripts fronts replies book
+  pub played : IsPlayed order_market scripts fronts replies book
   pub report : text ≡ report_text scripts replies book
 
 -- the scripts were made, and were played, and the text is the summary of the replies and of the book
@@ -29,5 +30,5 @@ pub record IsSummed (callers : ℕ) (making : Making) (fronts : List Front) (tex
   pub made : AreMade making.number making.lines callers scripts
   pub replies : List (List (Option BookReply))
   pub book : Book
-  pub played : IsPlayed scripts fronts replies book
+  pub played : IsPlayed order_market scripts fronts replies book
   pub summary : text ≡ summary_text scripts replies book

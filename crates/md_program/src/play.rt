@@ -3,6 +3,7 @@
 
 ghost use Rattle.std.specs.Prelude.{◌≡◌, ◌≤◌, ◌*◌, ℕ, IfOk, OnOk, length, map};
 ghost use Rattle.md_book.specs.Book.{Book};
+ghost use Rattle.md_book.specs.OrderRules.{order_market, order_rules};
 ghost use Rattle.md_book.specs.Stands.{StandsFor};
 ghost use Rattle.md_many.specs.Played.{IsToldOfEach};
 ghost use Rattle.md_rounds.specs.OrderLines.{line_count_of};
@@ -85,7 +86,7 @@ fn nodes_for(callers: u32, lines: u32) -> u32
 /// `AllocError` if memory runs out.
 pub fn open_for(alloc: Global, options: &Options, bytes: u32) -> Result<OpenStore, AllocError>
     requires in_range { AreInRange options.now }
-    ensures { IfOk result (λ o. IsOpenFor options.now.callers o.store o.pass) }
+    ensures { IfOk result (λ o. IsOpenFor order_rules options.now.callers o.store o.pass) }
 {
     let callers = options.callers;
     let lines = bytes / LINE_BYTES;
@@ -123,7 +124,8 @@ where
     requires callers { (1 ≤ length scripts.now) × (length scripts.now ≤ 64) }
     requires in_range { AreInRange options.now }
     ensures played { IfOk result (λ o. (book : Book) × StandsFor o.contents book
-        × IsPlayed scripts.now (map front_in o.fronts.items) o.replies.replies book) }
+        × IsPlayed order_market scripts.now
+        (map front_in o.fronts.items) o.replies.replies book) }
     ensures gate { OnOk result (IsToldOfEach (line_count_of scripts.now) (G.after_called gate.now)) }
 {
     let nodes = match options.nodes {

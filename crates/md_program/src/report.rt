@@ -3,6 +3,7 @@
 ghost use Rattle.std.specs.Prelude.{◌≡◌, ◌++◌, map, IfOk};
 ghost use Rattle.std.specs.Thread.{IsSync};
 ghost use Rattle.md_book.specs.Book.{Book};
+ghost use Rattle.md_book.specs.OrderRules.{order_market};
 ghost use Rattle.md_book.specs.Stands.{StandsFor};
 ghost use Rattle.md_report.specs.Report.{replies_text, report_text, whole_text};
 ghost use Rattle.md_many.specs.Closed.{ClosesTo};
@@ -52,9 +53,10 @@ pub fn tell_and_close<R: Threads + Sync>(
     requires played { ClosesTo (start_of played.rounds.engine)
         (map front_in played.rounds.fronts.items) (front_in played.rounds.pass)
         (λ fronts contents. (book : Book) × StandsFor contents book
-        × IsPlayed scripts.now fronts played.replies book) }
+        × IsPlayed order_market scripts.now fronts played.replies book) }
     ensures { IfOk result (λ w. (book : Book)
-        × IsPlayed scripts.now (map front_in w.fronts.items) played.replies book
+        × IsPlayed order_market scripts.now
+        (map front_in w.fronts.items) played.replies book
         × (whole_text w.parts.items ≡ report_text scripts.now played.replies book)) }
 {
     let OpenOutcome { replies, rounds } = played;

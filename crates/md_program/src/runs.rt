@@ -3,6 +3,7 @@
 ghost use Rattle.std.specs.Prelude.{◌≡◌, ◌≢◌, ◌≤◌, ◌↔◌, Some, ℕ, map};
 ghost use Rattle.std.specs.Prelude.{IfOk, IfErr, IsErrOf};
 ghost use Rattle.std.specs.Thread.{IsSync};
+ghost use Rattle.md_book.specs.OrderRules.{order_rules};
 ghost use Rattle.md_orders.specs.Grammar.{first_bad};
 ghost use Rattle.md_orders.specs.Records.{order_records, AreFewRecords};
 ghost use Rattle.md_report.specs.Report.{whole_text};
@@ -72,7 +73,7 @@ where
         { read_orders_in_threads(rt, alloc, records, callers) },
         move || -> Result<OpenStore, AllocError>
             requires in_range { AreInRange options.now }
-            ensures { IfOk result (λ o. IsOpenFor options.entry.now.callers o.store o.pass) }
+            ensures { IfOk result (λ o. IsOpenFor order_rules options.entry.now.callers o.store o.pass) }
         { open_for(alloc, options, count) },
     );
     let scripts = scripts?;

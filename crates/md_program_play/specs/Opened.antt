@@ -2,19 +2,17 @@
 use Rattle.std.specs.Prelude.{◌≡◌, ◌≤◌, ℕ, length}
 use Rattle.md_history.specs.Counts.{AllowAll}
 use Rattle.md_history.specs.Engine.{bounds_in}
-use Rattle.md_book.specs.Meets.{command_bounds}
-use Rattle.md_rounds.specs.Replay.{no_orders}
-use Rattle.md_rounds.specs.Traded.{MOST_NODES}
+use Rattle.md_book.specs.Rules.{Rules, without_orders}
 use Rattle.md_rule.specs.Views.{FieldView, PassState}
 use Rattle.md_store.specs.Store.{IsPassOf, IsNew, all_lanes, limits_of, start_of}
 
 -- The pass is the store's first, and the store is new. It has a lane for each caller and no orders; each command is
 -- within its bounds, and a lane has an attempt; and a renewal has room for whatever commands leave.
-pub record IsOpenFor (callers : ℕ) (store : FieldView) (pass : PassState) : Type 0 where
+pub record IsOpenFor {C R : Type 0} (rules : Rules C R) (callers : ℕ) (store : FieldView) (pass : PassState) : Type 0 where
   pub of : IsPassOf store pass
   pub fresh : IsNew store pass
   pub lanes : length (all_lanes store.origin.shape) ≡ callers
-  pub start : start_of store ≡ no_orders
-  pub bounds : AllowAll command_bounds (bounds_in (limits_of store.origin.shape))
+  pub start : start_of store ≡ without_orders rules
+  pub bounds : AllowAll rules.bounds (bounds_in (limits_of store.origin.shape))
   pub tries : 1 ≤ (limits_of store.origin.shape).tries
-  pub room : MOST_NODES ≤ (limits_of store.origin.shape).room
+  pub room : rules.most ≤ (limits_of store.origin.shape).room

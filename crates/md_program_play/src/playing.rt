@@ -4,6 +4,7 @@ ghost use Rattle.std.specs.Prelude.{◌≡◌, ◌≤◌, ◌*◌, IfOk, OnOk, l
 ghost use Rattle.md_words.specs.declared.limits.TheConstants.{MANY_BUCKETS};
 ghost use Rattle.md_words.specs.Layout.{HasNumbers};
 ghost use Rattle.md_book.specs.Book.{Book};
+ghost use Rattle.md_book.specs.OrderRules.{order_market, order_rules};
 ghost use Rattle.md_book.specs.Stands.{StandsFor};
 ghost use Rattle.md_rounds.specs.OrderLines.{line_count_of};
 ghost use Rattle.md_rounds.specs.Replay.{IsPlayed};
@@ -93,7 +94,7 @@ pub fn open_store(
     requires nodes { (COMMAND_NODES ≤ nodes) × (nodes ≤ MAX_LANE_NODES) }
     requires all { callers * nodes ≤ MAX_STORE_NODES }
     requires tries { 1 ≤ tries }
-    ensures open_for { IfOk result (λ o. IsOpenFor callers o.store o.pass) }
+    ensures open_for { IfOk result (λ o. IsOpenFor order_rules callers o.store o.pass) }
     ensures nodes { IfOk result (λ o. o.store.origin.shape.nodes ≡ nodes) }
     ensures tries { IfOk result (λ o. o.tries ≡ tries) }
 {
@@ -125,14 +126,14 @@ pub fn play_opened<R, G>(
 where
     R: Threads + Sync,
     G: Gate + Sync,
-    requires open_for { IsOpenFor (length scripts.now) opened.store opened.pass }
+    requires open_for { IsOpenFor order_rules (length scripts.now) opened.store opened.pass }
     ensures of { IfOk result (λ o. IsPassOf o.rounds.engine o.rounds.pass) }
     ensures all { IfOk result (λ o. (front_in o.rounds.pass).lanes
         ≡ all_lanes o.rounds.engine.origin.shape) }
     ensures played { IfOk result (λ o. ClosesTo (start_of o.rounds.engine)
         (map front_in o.rounds.fronts.items) (front_in o.rounds.pass) (λ fronts contents.
         (book : Book) × StandsFor contents book
-        × IsPlayed scripts.now fronts o.replies book)) }
+        × IsPlayed order_market scripts.now fronts o.replies book)) }
     ensures gate { OnOk result (IsToldOfEach (line_count_of scripts.now) (G.after_called gate.now)) }
 {
     let OpenStore { store, pass, tries } = opened;
@@ -160,7 +161,8 @@ where
     requires all { length scripts.now * nodes ≤ MAX_STORE_NODES }
     requires tries { 1 ≤ tries }
     ensures played { IfOk result (λ o. (book : Book) × StandsFor o.contents book
-        × IsPlayed scripts.now (map front_in o.fronts.items) o.replies.replies book) }
+        × IsPlayed order_market scripts.now
+        (map front_in o.fronts.items) o.replies.replies book) }
     ensures gate { OnOk result (IsToldOfEach (line_count_of scripts.now) (G.after_called gate.now)) }
 {
     let opened = open_store(alloc, scripts.callers(), scripts.total(), nodes, tries)?;

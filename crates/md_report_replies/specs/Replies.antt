@@ -16,7 +16,7 @@ abbrev pub no_replies : List (List Command) → List (List (Option BookReply))
 no_replies scripts = map (λ script. replicate (length script) None) scripts
 
 -- the reply of a line, if it has one
-abbrev pub reply_at : List (List (Option BookReply)) → ℕ → ℕ → Option BookReply
+abbrev pub reply_at : {R : Type 0} → List (List (Option R)) → ℕ → ℕ → Option R
 reply_at replies caller line = option_and_then (λ r. r) (at_line replies caller line)
 
 -- the replies with that of a line set

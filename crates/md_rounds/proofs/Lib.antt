@@ -1,6 +1,5 @@
-mod Names
+pub mod Naming
 pub mod Folding
-mod TradingDay
 mod Suiting
 mod Keeping
 pub mod Pigeons

@@ -5,12 +5,12 @@ use Rattle.std.specs.List.{list_any}
 use Rattle.std.proofs.lemmas.Bool.{cases_Bool, eq-eqb, eqb-true, false≢true}
 use Rattle.std.proofs.lemmas.List.{length-append}
 use Rattle.std.proofs.lemmas.List.Sums.{sum_by-cons}
-use Rattle.md_book.specs.declared.commands.Command.{Command}
+use Rattle.md_book.specs.Rules.{HasNone, AreDifferent}
 use Rattle.md_orders.specs.Scripts.{list_of, at_line, count_of}
 use Rattle.md_many_attempts.specs.Tags.{tag_of}
 use Rattle.md_many.specs.Tags.{tags_after}
 use Rattle.md_many.proofs.TagLaws.{length-tags_after}
-use Rattle.md_rounds.specs.Traded.{HasNone, AreDifferent, AreOfLines}
+use Rattle.md_rounds.specs.Traded.{AreOfLines}
 
 abbrev Has : List ℕ → ℕ → Type 0
 Has ys t = list_any (λ y. y == t) ys ≡ true
@@ -87,11 +87,11 @@ has-right (x ∷ xs) ys t h = elim (cases_Bool (x == t)) [
 ]
 
 -- the tags of all lines
-all-tags : ℕ → List (List Command) → List ℕ
+all-tags : {C : Type 0} → ℕ → List (List C) → List ℕ
 all-tags caller [] = []
 all-tags caller (script ∷ scripts) = tags_after caller 0 (length script) ++ all-tags (caller + 1) scripts
 
-all-tags-count : (caller : ℕ) (scripts : List (List Command)) → length (all-tags caller scripts) ≡ count_of scripts
+all-tags-count : {C : Type 0} (caller : ℕ) (scripts : List (List C)) → length (all-tags caller scripts) ≡ count_of scripts
 unfolding all-tags
 all-tags-count caller [] = refl
 all-tags-count caller (script ∷ scripts) = omega (
@@ -121,12 +121,12 @@ inside [] i x at = cc
 inside (y ∷ xs) zero x at = omega arith
 inside (y ∷ xs) (suc i) x at = let low = inside xs i x at in omega arith
 
-has-line-tag : (first : ℕ) (scripts : List (List Command)) (i l : ℕ) → l < length (list_of scripts (suc i))
+has-line-tag : {C : Type 0} (first : ℕ) (scripts : List (List C)) (i l : ℕ) → l < length (list_of scripts (suc i))
     → Has (all-tags first scripts) (tag_of (first + i) (l + 1))
 unfolding all-tags
-has-line-tag first [] i l low = absurd (none i low)
+has-line-tag {C} first [] i l low = absurd (none i low)
   where
-    none : (i : ℕ) → l < length (list_of {A = Command} [] (suc i)) → ⊥
+    none : (i : ℕ) → l < length (list_of {A = C} [] (suc i)) → ⊥
     none zero low = absurd (omega arith)
     none (suc i) low = absurd (omega arith)
 has-line-tag first (script ∷ scripts) zero l low =
@@ -145,7 +145,7 @@ tag-parts t = sym (div_mod t)
     div_mod : (t : ℕ) → t ≡ t / 2 ^ 32 * 2 ^ 32 + t % 2 ^ 32
     div_mod t = omega arith
 
-has-line : (scripts : List (List Command)) (caller line : ℕ) (c : Command) → at_line scripts caller line ≡ Some c
+has-line : {C : Type 0} (scripts : List (List C)) (caller line : ℕ) (c : C) → at_line scripts caller line ≡ Some c
     → Has (all-tags 1 scripts) (tag_of caller line)
 has-line scripts caller zero c at = cc
 has-line scripts zero (suc l) c at = cc
@@ -154,12 +154,12 @@ has-line scripts (suc i) (suc l) c at =
     subst (Has (all-tags 1 scripts)) same (has-line-tag 1 scripts i l (inside (list_of scripts (suc i)) l c at))
 
 -- the tags of lines, none twice, are no more than the lines
-pub tags-few : (scripts : List (List Command)) (ts : List ℕ) (cs : List Command) → AreOfLines scripts ts cs
+pub tags-few : {C : Type 0} (scripts : List (List C)) (ts : List ℕ) (cs : List C) → AreOfLines scripts ts cs
     → AreDifferent ts → length ts ≤ count_of scripts
-tags-few scripts ts cs lines different =
+tags-few {C} scripts ts cs lines different =
     omega (arith, pigeons ts (all-tags 1 scripts) different (each ts cs lines), all-tags-count 1 scripts)
   where
-    each : (ts : List ℕ) (cs : List Command) → AreOfLines scripts ts cs → (t : ℕ) → Has ts t → Has (all-tags 1 scripts) t
+    each : (ts : List ℕ) (cs : List C) → AreOfLines scripts ts cs → (t : ℕ) → Has ts t → Has (all-tags 1 scripts) t
     each [] cs lines t h = absurd (false≢true h)
     each (u ∷ ts) [] lines t h = absurd lines
     each (u ∷ ts) (c ∷ cs) lines t h = elim (cases_Bool (u == t)) [

@@ -12,6 +12,7 @@ use Rattle.md_book.specs.declared.commands.BookReply.{BookReply}
 use Rattle.md_book.specs.declared.limits.TheConstants.{MAX_PRICE}
 use Rattle.md_book.specs.declared.maps.TheConstants.{LEVELS}
 use Rattle.md_book.specs.Book.{Order, Book, empty_book, depth, cancel_step, find_open, level_of, book_step, replies_to}
+use Rattle.md_book.specs.OrderRules.{order_market}
 use Rattle.md_book.specs.Trading as day
 use Rattle.md_book.proofs.steps.Kills.{kill-either}
 use Rattle.md_orders.specs.Scripts.{at_line}
@@ -128,7 +129,7 @@ open-sum b =
     both m n k l all e f g = omega arith
 
 module _ (scripts : List (List Command)) (fronts : List Front) (replies : List (List (Option BookReply))) (book : Book)
-    (p : IsPlayed scripts fronts replies book) where
+    (p : IsPlayed order_market scripts fronts replies book) where
   abbrev tags : List ℕ
   tags = tags_of (committed_of fronts)
 

@@ -6,13 +6,10 @@ use Rattle.md_history.specs.declared.entries.Entry.{Entry}
 use Rattle.md_history.specs.State.{State, IsRight}
 use Rattle.md_history.specs.History.{acts_of}
 use Rattle.md_history.specs.Front.{Front}
-use Rattle.md_book.specs.declared.commands.Command.{Command}
-use Rattle.md_book.specs.declared.commands.BookReply.{BookReply}
-use Rattle.md_book.specs.Book.{Book, empty_book, book_after}
-use Rattle.md_book.specs.Stands.{StandsFor}
-use Rattle.md_book.specs.Meets.{CommandsMeetTheBook}
+use Rattle.md_book.specs.Book.{Book, empty_book}
+use Rattle.md_book.specs.Rules.{AreNamedAt, AreNamedBy, Market, IsLawful, without_orders}
 use Rattle.md_orders.specs.Records.{max_records}
-use Rattle.md_orders.specs.Scripts.{count_of, list_of, AreNamed}
+use Rattle.md_orders.specs.Scripts.{count_of, list_of, at_line}
 use Rattle.md_report_replies.specs.Replies.{reply_at}
 use Rattle.md_many_attempts.specs.ByCaller.{at_caller, lines_of}
 use Rattle.md_many_attempts.proofs.Lists.{count-lists}
@@ -21,17 +18,16 @@ use Rattle.md_many.specs.Played.{committed_of, tags_of, EachLineOnce}
 use Rattle.md_many.specs.Replied.{IsReplied, AreReplied}
 use Rattle.md_many.proofs.Walking.{fronts-right, each-replied}
 use Rattle.md_rounds.specs.Kept.{HaveReplies}
-use Rattle.md_rounds.specs.OrderLines.{order_meaning, line_count_of}
-use Rattle.md_rounds.specs.Replay.{commands_of, DidEach, RepliedEach, IsPlayed, no_orders}
+use Rattle.md_rounds.specs.OrderLines.{lines_meaning, line_count_of}
+use Rattle.md_rounds.specs.Replay.{commands_of, DidEach, RepliedEach, IsPlayed}
 use Rattle.md_rounds.specs.Traded.{AreOfLines, HasTraded}
-use Rattle.md_rounds.proofs.Names.{apart-none}
-use Rattle.md_rounds.proofs.Folding.{AreNamedBy, Folds, folds}
-use Rattle.md_rounds.proofs.TradingDay.{are-a-day}
+use Rattle.md_rounds.proofs.Naming.{apart-none}
+use Rattle.md_rounds.proofs.Folding.{Folds, folds}
 use Rattle.md_rounds.proofs.Pigeons.{tags-few}
 use Rattle.md_rounds.proofs.BookLaws.{named-by}
 
 -- the commands that tags name
-commands-same : (scripts : List (List Command)) (ts : List ℕ) (cs : List Command) → AreOfLines scripts ts cs
+commands-same : {C : Type 0} (scripts : List (List C)) (ts : List ℕ) (cs : List C) → AreOfLines scripts ts cs
     → cs ≡ commands_of scripts ts
 commands-same scripts [] [] lines = refl
 commands-same scripts (t ∷ ts) (c ∷ cs) lines =
@@ -40,28 +36,28 @@ commands-same scripts (t ∷ ts) (c ∷ cs) lines =
 commands-same scripts [] (c ∷ cs) lines = absurd lines
 commands-same scripts (t ∷ ts) [] lines = absurd lines
 
-module _ (scripts : List (List Command)) (replies : List (List (Option BookReply))) where
+module _ {C R : Type 0} (market : Market C R) (scripts : List (List C)) (replies : List (List (Option R))) where
   -- entries did the commands that their tags name, with the replies that are kept
   record Walked (es : List Entry) : Type 0 where
-    pub list : List BookReply
-    pub did : DidEach es (commands_of scripts (tags_of es)) list
+    pub list : List R
+    pub did : DidEach market.did es (commands_of scripts (tags_of es)) list
     pub replied : RepliedEach replies (tags_of es) list
 
-  walked : (es : List Entry) → AreReplied (order_meaning scripts) (reply_at replies) es → Walked es
+  walked : (es : List Entry) → AreReplied (lines_meaning market scripts) (reply_at replies) es → Walked es
   walked [] all = record { list = []; did = tt; replied = tt }
   walked (e ∷ es) all =
-      let first : IsReplied (order_meaning scripts) (reply_at replies) e = all.0 in
+      let first : IsReplied (lines_meaning market scripts) (reply_at replies) e = all.0 in
       let later = walked es all.1 in
       record {
         list = first.reply ∷ later.list;
-        did = subst (λ cs. DidEach (e ∷ es) cs (first.reply ∷ later.list))
+        did = subst (λ cs. DidEach market.did (e ∷ es) cs (first.reply ∷ later.list))
             (sym (ap (λ o. cons_option o (commands_of scripts (tags_of es))) first.there)) (first.did_it, later.did);
         replied = (first.kept, later.replied);
       }
 
 -- the lines of all callers are as many as scripts have commands
-count-lines : (scripts : List (List Command)) → lines_of (line_count_of scripts) (length scripts) ≡ count_of scripts
-count-lines scripts = lines-same (length scripts) ∙ count-lists scripts
+count-lines : {C : Type 0} (scripts : List (List C)) → lines_of (line_count_of scripts) (length scripts) ≡ count_of scripts
+count-lines {C} scripts = lines-same (length scripts) ∙ count-lists scripts
   where
     same-list : (caller : ℕ) → list_of scripts caller ≡ at_caller [] scripts caller
     same-list zero = refl
@@ -72,40 +68,41 @@ count-lines scripts = lines-same (length scripts) ∙ count-lists scripts
     lines-same (suc n) = omega (arith, lines-same n, ap length (same-list (suc n)))
 
 -- the lines of all callers, each once, are played with the replies of the book
-pub all-played : (scripts : List (List Command)) → AreNamed scripts → count_of scripts ≤ max_records
-    → CommandsMeetTheBook → StandsFor no_orders empty_book
-    → (replies : List (List (Option BookReply))) (keeps : ℕ → List BookReply → Type 0)
-    → ((caller : ℕ) (rs : List BookReply) → keeps caller rs → HaveReplies replies caller rs)
+pub all-played : {C R : Type 0} (market : Market C R) → IsLawful market → (scripts : List (List C))
+    → AreNamedAt market.rules (at_line scripts) → count_of scripts ≤ max_records
+    → (replies : List (List (Option R))) (keeps : ℕ → List R → Type 0)
+    → ((caller : ℕ) (rs : List R) → keeps caller rs → HaveReplies replies caller rs)
     → (fronts : List Front) (contents : State)
-    → EachLineOnce (order_meaning scripts) keeps (HasTraded scripts) no_orders fronts contents
+    → EachLineOnce (lines_meaning market scripts) keeps (HasTraded market.rules scripts) (without_orders market.rules) fronts contents
     → IsInterleaving (line_count_of scripts) (tags_of (committed_of fronts))
     → length fronts ≤ lines_of (line_count_of scripts) (length scripts) + 1
-    → (book : Book) × StandsFor contents book × IsPlayed scripts fronts replies book
-all-played scripts named few law none replies keeps has fronts contents once interleaving fronts_few =
+    → (book : Book) × market.rules.stands contents book × IsPlayed market scripts fronts replies book
+all-played market laws scripts named few replies keeps has fronts contents once interleaving fronts_few =
+    let start = without_orders market.rules in
     let es = committed_of fronts in
     let tags = tags_of es in
     let cs = commands_of scripts tags in
     let traded = once.stands in
     let same : traded.commands ≡ cs = commands-same scripts tags traded.commands traded.lines in
     let lines : AreOfLines scripts tags cs = subst (AreOfLines scripts tags) same traded.lines in
-    let names : AreNamedBy tags cs = named-by scripts named tags cs lines in
+    let names : AreNamedBy market.rules tags cs = named-by market scripts named tags cs lines in
     let count : length tags ≤ count_of scripts = tags-few scripts tags cs lines traded.different in
-    let each = walked scripts replies es
-    (each-replied (order_meaning scripts) (reply_at replies) keeps (HasTraded scripts) no_orders contents fronts has once) in
-    let right : IsRight no_orders (acts_of es) = fronts-right no_orders fronts once.legal in
-    let folded : Folds no_orders empty_book es cs each.list =
-    folds law no_orders empty_book es cs each.list none names traded.different (apart-none tags)
+    let each = walked market scripts replies es
+    (each-replied (lines_meaning market scripts) (reply_at replies) keeps (HasTraded market.rules scripts) start contents fronts has once) in
+    let right : IsRight start (acts_of es) = fronts-right start fronts once.legal in
+    let folded : Folds market start empty_book es cs each.list =
+    folds market laws start empty_book es cs each.list laws.opens names traded.different (apart-none tags)
     (omega (arith, count, few, length-map es (λ (e : Entry). e.tag))) each.did right in (
-      book_after empty_book cs,
-      subst (λ ds. StandsFor contents (book_after empty_book ds)) same traded.stands,
+      market.rules.after empty_book cs,
+      subst (λ ds. market.rules.stands contents (market.rules.after empty_book ds)) same traded.stands,
       record {
         legal = once.legal;
         few = omega (arith, fronts_few, count-lines scripts);
         each_once = interleaving;
         commands = cs;
         named = refl;
-        day = are-a-day tags cs names traded.different;
-        did = subst (DidEach es cs) folded.replies each.did;
+        day = laws.days tags cs names traded.different;
+        did = subst (DidEach market.did es cs) folded.replies each.did;
         replied = subst (RepliedEach replies tags) folded.replies each.replied;
         closing = refl;
       },

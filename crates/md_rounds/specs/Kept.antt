@@ -11,7 +11,7 @@ abbrev pub all_of : TurnReplies → List BookReply
 all_of list = list.packed ++ list.last.items
 
 -- a caller's first lines have these replies
-abbrev pub HaveReplies : List (List (Option BookReply)) → ℕ → List BookReply → Type 0
+abbrev pub HaveReplies : {R : Type 0} → List (List (Option R)) → ℕ → List R → Type 0
 HaveReplies replies caller rs = (i : ℕ) → i < length rs → reply_at replies caller (i + 1) ≡ slice_get rs i
 
 -- there is a place for each line, and those of a caller's first lines have these replies

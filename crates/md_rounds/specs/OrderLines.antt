@@ -1,38 +1,30 @@
--- The order book's lines: the commands of scripts.
+-- The commands of scripts as lines of callers.
 use Rattle.std.specs.Prelude.{◌≡◌, ◌<◌, ◌≤◌, ◌⊎◌, ◌↔◌, ℕ, zero, suc, IsSome, List, [], length, refl}
 use Rattle.std.proofs.Common.{ap, arith, inl, inr}
 use Rattle.std.proofs.lemmas.Bool.{false≢true}
 use Rattle.std.proofs.lemmas.List.{get_or_past}
 use Rattle.std.proofs.lemmas.Option.{slice_get_cases}
-use Rattle.md_history.specs.declared.acts.Act.{Act}
-use Rattle.md_history.specs.Script.{Did, Follows}
-use Rattle.md_book.specs.declared.commands.Command.{Command}
-use Rattle.md_book.specs.declared.commands.BookReply.{BookReply}
-use Rattle.md_book.specs.Commands.{script_of, FitsBook}
+use Rattle.md_book.specs.Rules.{Market}
 use Rattle.md_orders.specs.Scripts.{list_of, at_line}
 use Rattle.md_many_attempts.specs.Meaning.{Meaning}
 
--- what it is that acts did a command with a reply
-abbrev pub did_command : Command → List Act → BookReply → Type 0
-did_command c acts r = Did (script_of c) acts r
-
 -- how many lines a caller's script has
-abbrev pub line_count_of : List (List Command) → ℕ → ℕ
+abbrev pub line_count_of : {C : Type 0} → List (List C) → ℕ → ℕ
 line_count_of scripts caller = length (list_of scripts caller)
 
 -- what the lines mean: the commands of the scripts
-abbrev pub order_meaning : List (List Command) → Meaning Command BookReply
-order_meaning scripts = record {
-  did = did_command;
-  makes = λ c acts. Follows (script_of c) acts;
-  fits = λ c maps queues. FitsBook c maps queues;
+abbrev pub lines_meaning : {C R : Type 0} → Market C R → List (List C) → Meaning C R
+lines_meaning market scripts = record {
+  did = market.did;
+  makes = market.makes;
+  fits = market.fits;
   callers = length scripts;
   line_count = line_count_of scripts;
   body_at = at_line scripts;
 }
 
 -- there is a command at each line, and nowhere else
-pub has-line : (scripts : List (List Command)) (caller line : ℕ)
+pub has-line : {C : Type 0} (scripts : List (List C)) (caller line : ℕ)
     → IsSome (at_line scripts caller line) ↔ ((1 ≤ line) × (line ≤ line_count_of scripts caller))
 has-line scripts caller zero = ((λ some. absurd (false≢true some)), (λ within. absurd (omega (arith, within.0))))
 has-line scripts caller (suc l) = elim (slice_get_cases (list_of scripts caller) l).1 [
@@ -44,7 +36,7 @@ has-line scripts caller (suc l) = elim (slice_get_cases (list_of scripts caller)
 ]
 
 -- who is no caller has no lines
-pub no-lines : (scripts : List (List Command)) (caller : ℕ)
+pub no-lines : {C : Type 0} (scripts : List (List C)) (caller : ℕ)
     → (caller ≡ 0) ⊎ (length scripts < caller) → line_count_of scripts caller ≡ 0
 no-lines scripts zero other = refl
 no-lines scripts (suc c) other = elim other [

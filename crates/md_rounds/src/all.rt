@@ -2,6 +2,7 @@
 
 ghost use Rattle.std.specs.Prelude.{map, IfOk, OnOk};
 ghost use Rattle.md_book.specs.Book.{Book};
+ghost use Rattle.md_book.specs.OrderRules.{order_market, order_rules};
 ghost use Rattle.md_book.specs.Stands.{StandsFor};
 ghost use Rattle.md_many.specs.Closed.{ClosesTo, HoldsAllLanes};
 ghost use Rattle.md_many.specs.Played.{IsToldOfEach};
@@ -66,12 +67,12 @@ where
     R: Threads + Sync,
     E: Engine,
     G: Gate + Sync,
-    requires { CanPlayScripts E.Engine scripts.now engine pass }
+    requires { CanPlayScripts E.Engine order_rules scripts.now engine pass }
     ensures pass { IfOk result (λ o. HoldsAllLanes E.Engine o.rounds.engine o.rounds.pass) }
     ensures played { IfOk result (λ o. ClosesTo (E.start o.rounds.engine)
         (map E.front o.rounds.fronts.items) (E.front o.rounds.pass) (λ fronts contents.
         (book : Book) × StandsFor contents book
-        × IsPlayed scripts.now fronts o.replies book)) }
+        × IsPlayed order_market scripts.now fronts o.replies book)) }
     ensures gate { OnOk result (IsToldOfEach (line_count_of scripts.now) (G.after_called gate.now)) }
 {
     order_laws(scripts);
@@ -111,9 +112,10 @@ where
     R: Threads + Sync,
     E: Engine,
     G: Gate + Sync,
-    requires { CanPlayScripts E.Engine scripts.now engine pass }
+    requires { CanPlayScripts E.Engine order_rules scripts.now engine pass }
     ensures played { IfOk result (λ o. (book : Book) × StandsFor o.contents book
-        × IsPlayed scripts.now (map E.front o.fronts.items) o.replies.replies book) }
+        × IsPlayed order_market scripts.now
+        (map E.front o.fronts.items) o.replies.replies book) }
     ensures gate { OnOk result (IsToldOfEach (line_count_of scripts.now) (G.after_called gate.now)) }
 {
     order_laws(scripts);

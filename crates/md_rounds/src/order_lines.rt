@@ -2,12 +2,11 @@
 
 ghost use Rattle.std.specs.Prelude.{length};
 ghost use Rattle.std.specs.Option.{IsSomeAnd};
-ghost use Rattle.md_book.specs.Suits.{Suits};
-ghost use Rattle.md_book.specs.Meets.{command_bounds};
+ghost use Rattle.md_book.specs.OrderRules.{order_rules};
+ghost use Rattle.md_book.specs.Rules.{without_orders};
 ghost use Rattle.md_orders.specs.Scripts.{at_line};
 ghost use Rattle.md_rounds.specs.OrderLines.{line_count_of, has-line, no-lines};
-ghost use Rattle.md_rounds.specs.Replay.{no_orders};
-ghost use Rattle.md_rounds.specs.Traded.{HasTraded, MOST_NODES};
+ghost use Rattle.md_rounds.specs.Traded.{HasTraded};
 
 use md_book::Command;
 use md_many::{LawfulLines, Lines};
@@ -46,14 +45,14 @@ impl Lines for OrderLines<'_> {
 }
 
 impl LawfulLines for OrderLines<'_> {
-    ghost opening = { λ l. no_orders };
+    ghost opening = { λ l. without_orders order_rules };
 
-    ghost good = { λ l s tags. HasTraded l.scripts.now s tags };
+    ghost good = { λ l s tags. HasTraded order_rules l.scripts.now s tags };
 
     ghost suits = { λ l caller line r.
-        IsSomeAnd (at_line l.scripts.now caller line) (λ c. Suits (c, r)) };
+        IsSomeAnd (at_line l.scripts.now caller line) (λ c. order_rules.suits (c, r)) };
 
-    ghost cost = { λ l. command_bounds };
+    ghost cost = { λ l. order_rules.bounds };
 
-    ghost most = { λ l. MOST_NODES };
+    ghost most = { λ l. order_rules.most };
 }
