@@ -69,13 +69,15 @@ pub record IsStepBy {C R : Type 0} (rules : Rules C R) (s : State) (b : Book) (c
   pub reply : r ≡ rules.reply b c
   pub stands : rules.stands (run s acts) (rules.next b c)
 
--- Rules keep their laws, where a command does and can make such acts. Maps and queues without orders stand for the empty
+-- Rules keep their laws, where a command does and can make such acts, and may run over so many maps and queues. It may
+-- run where there are those of a book. Maps and queues without orders stand for the empty
 -- book; right acts of a command are its step; what it can make is within the bounds; what stands for a book shows it, with
 -- its maps, and needs so many nodes at most; a book can take a command that has a new name, if it has room for an order;
 -- a command adds at most its own name; several commands are one after another; commands of different names are a day; and
 -- on a day each reply suits its command.
-pub record AreLawful {C R : Type 0} (did : C → List Act → R → Type 0) (makes : C → List Act → Type 0) (rules : Rules C R)
-    : Type 0 where
+pub record AreLawful {C R : Type 0} (did : C → List Act → R → Type 0) (makes : C → List Act → Type 0)
+    (may_run : C → ℕ → ℕ → Type 0) (rules : Rules C R) : Type 0 where
+  pub fits : (c : C) → rules.is_command c → may_run c rules.maps LEVELS
   pub opens : rules.stands (without_orders rules) empty_book
   pub meets : (s : State) (b : Book) (c : C) (acts : List Act) (r : R) → rules.stands s b → rules.is_command c
       → rules.may_take b c → did c acts r → IsRight s acts → IsStepBy rules s b c acts r
@@ -107,4 +109,4 @@ abbrev pub market_of : {C R : Type 0} → BodyWords C R → Rules C R → Market
 market_of body rules = record { did = body.did; makes = body.makes; fits = body.fits; rules = rules }
 
 abbrev pub IsLawful : {C R : Type 0} → Market C R → Type 0
-IsLawful market = AreLawful market.did market.makes market.rules
+IsLawful market = AreLawful market.did market.makes market.fits market.rules

@@ -10,13 +10,13 @@ pub trait BookCommand: Body + Copy + Drop + Send + Sync {
     ghost use Rattle.md_book.specs.Rules.{Rules, AreLawful};
 
     /// What such commands do to a book and answer, and which maps and queues stand for it.
-    ghost rules: { Rules Self Self.Reply };
+    ghost book_rules: { Rules Self Self.Reply };
 
     /// How many maps a book needs.
     fn maps() -> u32
-        ensures { result ≡ rules.maps };
+        ensures { result ≡ book_rules.maps };
 
     /// Lends the laws of the rules to a proof. It has no effect when it runs.
     fn rules_hold()
-        ensures { AreLawful Self.did Self.makes rules };
+        ensures { AreLawful Self.did Self.makes Self.fits book_rules };
 }

@@ -7,7 +7,7 @@ use crate::commands::Command;
 use crate::maps::MAPS;
 
 impl BookCommand for Command {
-    ghost rules = { order_rules };
+    ghost book_rules = { order_rules };
 
     fn maps() -> u32 {
         MAPS

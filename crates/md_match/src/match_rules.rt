@@ -7,7 +7,7 @@ use crate::maps::MATCH_MAPS;
 use md_book::BookCommand;
 
 impl BookCommand for MatchCommand {
-    ghost rules = { match_rules };
+    ghost book_rules = { match_rules };
 
     fn maps() -> u32 {
         MATCH_MAPS

@@ -13,6 +13,7 @@ use Rattle.md_book.proofs.steps.Small.{commands-are-small}
 
 pub orders-are-lawful : IsLawful order_market
 orders-are-lawful = record {
+  fits = λ c is. record { command = is; maps_enough = omega arith; queues_enough = omega arith };
   opens = empty-stands;
   meets = λ s b c acts r stands is may did right.
       let step = commands-meet-the-book s b c acts r stands is may did right in

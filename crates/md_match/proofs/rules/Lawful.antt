@@ -10,6 +10,7 @@ use Rattle.md_match.proofs.trading.Days.{match-replies-suit}
 
 pub matches-are-lawful : IsLawful match_market
 matches-are-lawful = record {
+  fits = λ c is. record { command = is; maps_enough = omega arith; queues_enough = omega arith };
   opens = empty-stands;
   meets = λ s b c acts r stands is may did right.
       let step = matches-meet-the-book s b c acts r stands is may did right in
