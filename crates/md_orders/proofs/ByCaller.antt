@@ -7,10 +7,10 @@ use Rattle.std.proofs.lemmas.Bool.{cases_Bool, eqb-true, eq-eqb, false≢true}
 use borrow.Author.Tests.{ltb-true, ltb-false}
 use Rattle.std.proofs.lemmas.List.{get_or_read, get_or_past, length-set}
 use Rattle.std.proofs.lemmas.List.Sums.{sum_by-set, get_or-le-sum_by}
-use Rattle.md_book.specs.declared.commands.Command.{Command}
-use Rattle.md_book.specs.Commands.{IsCommand, name_of}
+use Rattle.md_book.specs.Commands.{name_of}
+use Rattle.md_book.specs.Rules.{Rules, AreNamedAt}
 use Rattle.md_orders.specs.Records.{max_records}
-use Rattle.md_orders.specs.Scripts.{list_of, with_list, with_line, at_line, count_of, IsNamed, AreNamed, AreKept}
+use Rattle.md_orders.specs.Scripts.{list_of, with_list, with_line, at_line, count_of, AreKept}
 
 -- by the index of a caller
 pub list_of-at : {A : Type 0} (lists : List (List A)) (caller i : ℕ) → 1 ≤ caller → i ≡ caller - 1 → list_of lists caller ≡ get_or lists i []
@@ -60,23 +60,23 @@ push_line Q (y ∷ xs) x zero all last = all zero
 push_line Q (y ∷ xs) x (suc l) all last = push_line (λ n. Q (suc n)) xs x l (λ k. all (suc k)) (let e : suc (length xs) + 1 ≡ suc (length xs + 1) = omega arith in subst (λ n. Q n x) e last)
 
 -- scripts stay named where a command with the name of its line is added
-named-add : (lists : List (List Command)) (caller : ℕ) (x : Command) → AreNamed lists → 1 ≤ caller → caller ≤ length lists
-    → IsCommand x × IsNamed (name_of caller (length (list_of lists caller) + 1)) x → AreNamed (with_list lists caller (list_of lists caller ++ x ∷ []))
-named-add lists caller x named low high lawful c zero = tt
-named-add lists caller x named low high lawful c (suc l) = elim (cases_Bool (c == caller)) [
+named-add : {C R : Type 0} (rules : Rules C R) (lists : List (List C)) (caller : ℕ) (x : C) → AreNamedAt rules (at_line lists) → 1 ≤ caller → caller ≤ length lists
+    → rules.is_command x × rules.is_named (name_of caller (length (list_of lists caller) + 1)) x → AreNamedAt rules (at_line (with_list lists caller (list_of lists caller ++ x ∷ [])))
+named-add rules lists caller x named low high lawful c zero = tt
+named-add {C} rules lists caller x named low high lawful c (suc l) = elim (cases_Bool (c == caller)) [
   | inl same ↦
-      let P : ℕ → List Command → Type 0 = λ k xs. IfSome (slice_get xs l) (λ d. IsCommand d × IsNamed (name_of k (suc l)) d) in
+      let P : ℕ → List C → Type 0 = λ k xs. IfSome (slice_get xs l) (λ d. rules.is_command d × rules.is_named (name_of k (suc l)) d) in
       let e : caller ≡ c = sym (eqb-true c caller same) in
       let new = list_of-with_list-same lists caller (list_of lists caller ++ x ∷ []) low high in
       subst (λ k. P k (list_of (with_list lists caller (list_of lists caller ++ x ∷ [])) k)) e
-      (subst (P caller) (sym new) (push_line (λ n d. IsCommand d × IsNamed (name_of caller n) d) (list_of lists caller) x l (λ k. named caller (suc k)) lawful))
+      (subst (P caller) (sym new) (push_line (λ n d. rules.is_command d × rules.is_named (name_of caller n) d) (list_of lists caller) x l (λ k. named caller (suc k)) lawful))
   | inr other ↦
       let apart : c ≢ caller = λ e. false≢true (sym other ∙ eq-eqb c caller e) in
-      subst (λ xs. IfSome (slice_get xs l) (λ d. IsCommand d × IsNamed (name_of c (suc l)) d)) (sym (list_of-with_list-other lists caller c (list_of lists caller ++ x ∷ []) apart)) (named c (suc l))
+      subst (λ xs. IfSome (slice_get xs l) (λ d. rules.is_command d × rules.is_named (name_of c (suc l)) d)) (sym (list_of-with_list-other lists caller c (list_of lists caller ++ x ∷ []) apart)) (named c (suc l))
 ]
 
 -- one command more
-pub count_of-add : (lists : List (List Command)) (caller : ℕ) (x : Command) → 1 ≤ caller → caller ≤ length lists → count_of (with_list lists caller (list_of lists caller ++ x ∷ [])) ≡ count_of lists + 1
+pub count_of-add : {C : Type 0} (lists : List (List C)) (caller : ℕ) (x : C) → 1 ≤ caller → caller ≤ length lists → count_of (with_list lists caller (list_of lists caller ++ x ∷ [])) ≡ count_of lists + 1
 count_of-add lists zero x low high = absurd (omega arith)
 count_of-add lists (suc c) x low high =
     let new = get_or lists c [] ++ x ∷ [] in
@@ -93,13 +93,13 @@ length-list_of-le lists (suc c) = elim (cases_Bool (nat_lt c (length lists))) [
 ]
 
 -- scripts keep what they keep where such a command is added and there is room for it
-pub kept-add : (total : ℕ) (lists : List (List Command)) (caller : ℕ) (x : Command) → AreKept total lists → 1 ≤ caller → caller ≤ length lists → count_of lists < max_records
-    → IsCommand x × IsNamed (name_of caller (length (list_of lists caller) + 1)) x → AreKept (total + 1) (with_list lists caller (list_of lists caller ++ x ∷ []))
-kept-add total lists caller x kept low high room lawful =
+pub kept-add : {C R : Type 0} (rules : Rules C R) (total : ℕ) (lists : List (List C)) (caller : ℕ) (x : C) → AreKept rules total lists → 1 ≤ caller → caller ≤ length lists → count_of lists < max_records
+    → rules.is_command x × rules.is_named (name_of caller (length (list_of lists caller) + 1)) x → AreKept rules (total + 1) (with_list lists caller (list_of lists caller ++ x ∷ []))
+kept-add rules total lists caller x kept low high room lawful =
     let more = count_of-add lists caller x low high in
     let counted = kept.counted in
     record {
-      named = named-add lists caller x kept.named low high lawful;
+      named = named-add rules lists caller x kept.named low high lawful;
       counted = ap (λ n. n + 1) counted ∙ sym more;
       few = omega arith;
       callers = rw (length-with_list lists caller (list_of lists caller ++ x ∷ [])) kept.callers;

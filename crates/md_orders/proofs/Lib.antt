@@ -1,6 +1,8 @@
 pub mod Digits
 pub mod ByCaller
 pub mod Keeps
+pub mod Terms
+pub mod Orders
 pub mod Lines
 pub mod Rows
 pub mod Numbered

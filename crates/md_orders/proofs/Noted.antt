@@ -9,33 +9,33 @@ use Rattle.std.proofs.lemmas.List.{append-nil, length-replicate, get_or-replicat
 use Rattle.std.proofs.lemmas.List.Elements.{filter-append, filter_map-append}
 use Rattle.std.proofs.lemmas.List.Folds.{sum_by-replicate}
 use Rattle.std.proofs.Common.{mul-zero}
-use Rattle.md_book.specs.declared.commands.Command.{Command}
-use Rattle.md_book.specs.Commands.{IsCommand, name_of}
+use Rattle.md_book.specs.Commands.{name_of}
+use Rattle.md_book.specs.Rules.{Rules}
 use Rattle.md_orders.specs.declared.version.Version.{Version}
 use Rattle.md_orders.specs.declared.version.Version.TheVariants.{First, Second}
 use Rattle.md_orders.specs.Records.{Row}
-use Rattle.md_orders.specs.Version.{OrderFile, file_of, is_version_record}
-use Rattle.md_orders.specs.Grammar.{caller_of, command_of, keeps}
-use Rattle.md_orders.specs.Scripts.{list_of, with_list, count_of, is_by, script_in, IsNamed, AreKept}
-use Rattle.md_orders.specs.Noted.{file_as, shows_version_2, AreScriptsOf, AreNoted, IsNoted}
+use Rattle.md_orders.specs.Version.{file_as, OrderFile, file_of, is_version_record}
+use Rattle.md_orders.specs.Grammar.{Grammar, caller_of, keeps}
+use Rattle.md_orders.specs.Scripts.{list_of, with_list, count_of, is_by, script_in, AreKept}
+use Rattle.md_orders.specs.Noted.{shows_version_2, AreScriptsOf, AreNoted, IsNoted}
 use Rattle.md_orders.specs.ScriptLine.{IsScriptLine}
 use Rattle.md_orders.proofs.Numbered.{numbered-more, numbered-same}
 use Rattle.md_orders.proofs.ByCaller.{list_of-with_list-same, list_of-with_list-other, length-with_list, at_line-none, count_of-add}
 use Rattle.md_orders.proofs.Keeps.{first_bad_line-more, first_bad_line-still, caller_of-inv}
 
 -- the next command of a caller
-script-more : (version : Version) (callers : ℕ) (rows : List Row) (row : Row) (caller n : ℕ) (x : Command) → is_by version callers caller row ≡ true → n ≡ 1 + length (filter (is_by version callers caller) rows)
-    → command_of version (name_of caller n) row ≡ Some x → script_in version callers (rows ++ row ∷ []) caller ≡ script_in version callers rows caller ++ x ∷ []
-script-more version callers rows row caller n x mine at is =
-    let f : ℕ × Row → Option Command = λ p. command_of version (name_of caller p.0) p.1 in
+script-more : {C : Type 0} (grammar : Grammar C) (version : Version) (callers : ℕ) (rows : List Row) (row : Row) (caller n : ℕ) (x : C) → is_by version callers caller row ≡ true → n ≡ 1 + length (filter (is_by version callers caller) rows)
+    → grammar.command_of version (name_of caller n) row ≡ Some x → script_in grammar version callers (rows ++ row ∷ []) caller ≡ script_in grammar version callers rows caller ++ x ∷ []
+script-more {C} grammar version callers rows row caller n x mine at is =
+    let f : ℕ × Row → Option C = λ p. grammar.command_of version (name_of caller p.0) p.1 in
     ap (filter_map f) (numbered-more (is_by version callers caller) n rows row mine at)
     ∙ filter_map-append f (enumerate_from 1 (filter (is_by version callers caller) rows)) ((n, row) ∷ [])
-    ∙ ap (λ o. script_in version callers rows caller ++ cons_option o []) is
+    ∙ ap (λ o. script_in grammar version callers rows caller ++ cons_option o []) is
 
 -- a record of another caller leaves a script as it was
-script-same : (version : Version) (callers : ℕ) (rows : List Row) (row : Row) (caller : ℕ) → is_by version callers caller row ≡ false → script_in version callers (rows ++ row ∷ []) caller ≡ script_in version callers rows caller
-script-same version callers rows row caller other =
-    ap (filter_map (λ (p : ℕ × Row). command_of version (name_of caller p.0) p.1)) (numbered-same (is_by version callers caller) rows row other)
+script-same : {C : Type 0} (grammar : Grammar C) (version : Version) (callers : ℕ) (rows : List Row) (row : Row) (caller : ℕ) → is_by version callers caller row ≡ false → script_in grammar version callers (rows ++ row ∷ []) caller ≡ script_in grammar version callers rows caller
+script-same grammar version callers rows row caller other =
+    ap (filter_map (λ (p : ℕ × Row). grammar.command_of version (name_of caller p.0) p.1)) (numbered-same (is_by version callers caller) rows row other)
 
 -- a record is of its caller
 by-is : (version : Version) (callers caller k : ℕ) (row : Row) → caller_of version callers row ≡ Some k → is_by version callers caller row ≡ (k == caller)
@@ -46,10 +46,10 @@ abbrev more : OrderFile → Row → OrderFile
 more file row = record file { lines = file.lines ++ row ∷ [] }
 
 -- its scripts
-scripts-more : (callers : ℕ) (file : OrderFile) (row : Row) (scripts : List (List Command)) (caller : ℕ) (x : Command)
-    → AreScriptsOf callers file scripts → IsScriptLine file.version callers row scripts caller x
-    → AreScriptsOf callers (more file row) (with_list scripts caller (list_of scripts caller ++ x ∷ []))
-scripts-more callers file row scripts caller x so_far line =
+scripts-more : {C R : Type 0} (rules : Rules C R) (grammar : Grammar C) (callers : ℕ) (file : OrderFile) (row : Row) (scripts : List (List C)) (caller : ℕ) (x : C)
+    → AreScriptsOf grammar callers file scripts → IsScriptLine rules grammar file.version callers row scripts caller x
+    → AreScriptsOf grammar callers (more file row) (with_list scripts caller (list_of scripts caller ++ x ∷ []))
+scripts-more rules grammar callers file row scripts caller x so_far line =
     let version = file.version in
     let rows = file.lines in
     let from = caller_of-inv version callers row caller line.caller_is in
@@ -62,15 +62,15 @@ scripts-more callers file row scripts caller x so_far line =
     let more_lines = count_of-add scripts caller x low high in
     let few = so_far.few in
     record {
-      good = first_bad_line-more version callers file.first rows (row ∷ []) so_far.good ∙ rw line.good refl;
+      good = first_bad_line-more grammar version callers file.first rows (row ∷ []) so_far.good ∙ rw line.good refl;
       number = length-with_list scripts caller new ∙ number;
       each = λ c. elim (cases_Bool (caller == c)) [
         | inl is ↦ let e : caller ≡ c = eqb-true caller c is in
-            subst (λ k. list_of (with_list scripts caller new) k ≡ script_in version callers (rows ++ row ∷ []) k) e
-            (same ∙ ap (λ xs. xs ++ x ∷ []) (so_far.each caller) ∙ sym (script-more version callers rows row caller _ x mine (let n = so_far.lines caller in omega arith) line.command_is))
+            subst (λ k. list_of (with_list scripts caller new) k ≡ script_in grammar version callers (rows ++ row ∷ []) k) e
+            (same ∙ ap (λ xs. xs ++ x ∷ []) (so_far.each caller) ∙ sym (script-more grammar version callers rows row caller _ x mine (let n = so_far.lines caller in omega arith) line.command_is))
         | inr other ↦
             list_of-with_list-other scripts caller c new (λ e. false≢true (sym other ∙ eq-eqb caller c (sym e))) ∙ so_far.each c
-            ∙ sym (script-same version callers rows row c (by-is version callers c caller row line.caller_is ∙ other))
+            ∙ sym (script-same grammar version callers rows row c (by-is version callers c caller row line.caller_is ∙ other))
       ];
       lines = λ c. elim (cases_Bool (caller == c)) [
         | inl is ↦ let e : caller ≡ c = eqb-true caller c is in
@@ -85,35 +85,35 @@ scripts-more callers file row scripts caller x so_far line =
     }
 
 -- of lists that are all empty every caller has an empty one
-pub list_of-replicate : (n caller : ℕ) → list_of (replicate n (let none : List Command = [] in none)) caller ≡ []
+pub list_of-replicate : {C : Type 0} (n caller : ℕ) → list_of (replicate n (let none : List C = [] in none)) caller ≡ []
 list_of-replicate n zero = refl
-list_of-replicate n (suc c) = elim (cases_Bool (nat_lt c n)) [
+list_of-replicate {C} n (suc c) = elim (cases_Bool (nat_lt c n)) [
   | inl inside ↦ get_or-replicate n c [] [] (ltb-true c n inside)
-  | inr past ↦ get_or_past (replicate n []) c [] (let size = length-replicate n (let none : List Command = [] in none) in let low = ltb-false c n past in omega arith)
+  | inr past ↦ get_or_past (replicate n []) c [] (let size = length-replicate n (let none : List C = [] in none) in let low = ltb-false c n past in omega arith)
 ]
 
 -- and there is no command
-pub count_of-none : (callers : ℕ) (scripts : List (List Command)) → scripts ≡ replicate callers [] → count_of scripts ≡ 0
-count_of-none callers scripts is = ap count_of is ∙ sum_by-replicate length callers (let none : List Command = [] in none) ∙ mul-zero callers
+pub count_of-none : {C : Type 0} (callers : ℕ) (scripts : List (List C)) → scripts ≡ replicate callers [] → count_of scripts ≡ 0
+count_of-none {C} callers scripts is = ap count_of is ∙ sum_by-replicate length callers (let none : List C = [] in none) ∙ mul-zero callers
 
 -- such scripts keep what scripts keep
-pub kept-none : (callers : ℕ) (scripts : List (List Command)) → callers < 2 ^ 32 → scripts ≡ replicate callers [] → AreKept 0 scripts
-kept-none callers scripts few is =
-    let number = ap length is ∙ length-replicate callers (let none : List Command = [] in none) in
+pub kept-none : {C R : Type 0} (rules : Rules C R) (callers : ℕ) (scripts : List (List C)) → callers < 2 ^ 32 → scripts ≡ replicate callers [] → AreKept rules 0 scripts
+kept-none {C} rules callers scripts few is =
+    let number = ap length is ∙ length-replicate callers (let none : List C = [] in none) in
     let none = count_of-none callers scripts is in
     record {
       named = λ caller line.
-          let empty = at_line-none scripts caller line (ap (λ (ls : List (List Command)). list_of ls caller) is ∙ list_of-replicate callers caller) in
-          subst (λ (o : Option Command). IfSome o (λ c. IsCommand c × IsNamed (name_of caller line) c)) (sym empty) tt;
+          let empty = at_line-none scripts caller line (ap (λ (ls : List (List C)). list_of ls caller) is ∙ list_of-replicate callers caller) in
+          subst (λ (o : Option C). IfSome o (λ c. rules.is_command c × rules.is_named (name_of caller line) c)) (sym empty) tt;
       counted = sym none;
       few = omega arith;
       callers = omega arith;
     }
 
 -- of no line
-scripts-none : (callers first : ℕ) (version : Version) (scripts : List (List Command)) → length scripts ≡ callers → ((caller : ℕ) → list_of scripts caller ≡ []) → count_of scripts ≡ 0
-    → AreScriptsOf callers (record { version = version; first = first; lines = [] }) scripts
-scripts-none callers first version scripts number none count = record { good = refl; number = number; each = none; lines = λ caller. ap length (none caller); few = omega arith }
+scripts-none : {C : Type 0} (grammar : Grammar C) (callers first : ℕ) (version : Version) (scripts : List (List C)) → length scripts ≡ callers → ((caller : ℕ) → list_of scripts caller ≡ []) → count_of scripts ≡ 0
+    → AreScriptsOf grammar callers (record { version = version; first = first; lines = [] }) scripts
+scripts-none grammar callers first version scripts number none count = record { good = refl; number = number; each = none; lines = λ caller. ap length (none caller); few = omega arith }
 
 -- the file of no record
 no-file : (known : Option Version) → file_as known [] ≡ record { version = unwrap_or known First; first = 1; lines = [] }
@@ -121,14 +121,14 @@ no-file None = refl
 no-file (Some version) = refl
 
 -- no record yet
-pub noted-none : (known : Option Version) (callers : ℕ) (version : Version) (scripts : List (List Command)) → version ≡ unwrap_or known First → scripts ≡ replicate callers [] → IsNoted known callers [] 0 version scripts None
-noted-none known callers version scripts first is =
+pub noted-none : {C : Type 0} (grammar : Grammar C) (known : Option Version) (callers : ℕ) (version : Version) (scripts : List (List C)) → version ≡ unwrap_or known First → scripts ≡ replicate callers [] → IsNoted grammar known callers [] 0 version scripts None
+noted-none {C} grammar known callers version scripts first is =
     let at : file_as known [] ≡ record { version = unwrap_or known First; first = 1; lines = [] } = no-file known in
     record {
       counted = refl;
       version_is = first ∙ sym (ap (λ file. file.version) at);
-      noted = rw at (scripts-none callers 1 (unwrap_or known First) scripts (ap length is ∙ length-replicate callers [])
-          (λ caller. ap (λ (ls : List (List Command)). list_of ls caller) is ∙ list_of-replicate callers caller)
+      noted = rw at (scripts-none grammar callers 1 (unwrap_or known First) scripts (ap length is ∙ length-replicate callers [])
+          (λ caller. ap (λ (ls : List (List C)). list_of ls caller) is ∙ list_of-replicate callers caller)
           (count_of-none callers scripts is));
     }
 
@@ -153,19 +153,19 @@ file-version : (row : Row) → is_version_record row ≡ true → file_of (row �
 file-version row is = rw is refl
 
 -- the version's record at the start
-pub note_version : (callers : ℕ) (rows : List Row) (row : Row) (count : ℕ) (version : Version) (scripts : List (List Command)) (bad : Option ℕ)
-    → length rows ≡ 0 → is_version_record row ≡ true → IsNoted None callers rows count version scripts bad → IsNoted None callers (rows ++ row ∷ []) (count + 1) Second scripts bad
-note_version callers [] row count version scripts None start is noted =
-    let so_far : AreScriptsOf callers (record { version = First; first = 1; lines = [] }) scripts = noted.noted in
+pub note_version : {C : Type 0} (grammar : Grammar C) (callers : ℕ) (rows : List Row) (row : Row) (count : ℕ) (version : Version) (scripts : List (List C)) (bad : Option ℕ)
+    → length rows ≡ 0 → is_version_record row ≡ true → IsNoted grammar None callers rows count version scripts bad → IsNoted grammar None callers (rows ++ row ∷ []) (count + 1) Second scripts bad
+note_version grammar callers [] row count version scripts None start is noted =
+    let so_far : AreScriptsOf grammar callers (record { version = First; first = 1; lines = [] }) scripts = noted.noted in
     let few = so_far.few in
     let file = file-version row is in
     record {
       counted = ap (λ n. n + 1) noted.counted;
       version_is = sym (ap (λ file. file.version) file);
-      noted = rw file (scripts-none callers 2 Second scripts so_far.number so_far.each (omega arith));
+      noted = rw file (scripts-none grammar callers 2 Second scripts so_far.number so_far.each (omega arith));
     }
-note_version callers [] row count version scripts (Some n) start is noted = cc noted.noted
-note_version callers (r ∷ rows) row count version scripts bad start is noted = cc start
+note_version grammar callers [] row count version scripts (Some n) start is noted = cc noted.noted
+note_version grammar callers (r ∷ rows) row count version scripts bad start is noted = cc start
 
 -- whether the version's record is at the start, by the record's number
 pub at-start : (known : Option Version) (rows : List Row) (row : Row) (number : ℕ) → length rows + 1 ≡ number → shows_version_2 known number row ≡ true
@@ -181,9 +181,9 @@ not-at-start (Some version) rows row number at is = λ none. cc none
 not-at-start None rows row number at is = λ _ none. let e : (number == 1) ≡ true = eq-eqb number 1 (omega arith) in rw e at is
 
 -- what was noted, in one place
-noted-as : (known : Option Version) (callers : ℕ) (rows : List Row) (row : Row) (count : ℕ) (version : Version) (scripts : List (List Command)) (bad : Option ℕ) → IsLaterOrKnown known rows row
-    → count ≡ length rows → version ≡ (file_as known rows).version → AreNoted callers (more (file_as known rows) row) scripts bad → IsNoted known callers (rows ++ row ∷ []) (count + 1) version scripts bad
-noted-as known callers rows row count version scripts bad other counted version_is noted =
+noted-as : {C : Type 0} (grammar : Grammar C) (known : Option Version) (callers : ℕ) (rows : List Row) (row : Row) (count : ℕ) (version : Version) (scripts : List (List C)) (bad : Option ℕ) → IsLaterOrKnown known rows row
+    → count ≡ length rows → version ≡ (file_as known rows).version → AreNoted grammar callers (more (file_as known rows) row) scripts bad → IsNoted grammar known callers (rows ++ row ∷ []) (count + 1) version scripts bad
+noted-as grammar known callers rows row count version scripts bad other counted version_is noted =
     let is = file-more known rows row other in
     record {
       counted = ap (λ n. n + 1) counted ∙ sym (length-append rows (row ∷ []));
@@ -192,33 +192,33 @@ noted-as known callers rows row count version scripts bad other counted version_
     }
 
 -- after a line what was noted is the scripts with it
-pub note_line : (known : Option Version) (callers : ℕ) (rows : List Row) (row : Row) (count : ℕ) (version : Version) (scripts : List (List Command)) (bad : Option ℕ) (caller : ℕ) (x : Command)
-    → is_some bad ≡ false → IsLaterOrKnown known rows row → IsNoted known callers rows count version scripts bad → IsScriptLine version callers row scripts caller x
-    → IsNoted known callers (rows ++ row ∷ []) (count + 1) version (with_list scripts caller (list_of scripts caller ++ x ∷ [])) bad
-note_line known callers rows row count version scripts None caller x none other noted line =
-    noted-as known callers rows row count version _ None other noted.counted noted.version_is
-    (scripts-more callers (file_as known rows) row scripts caller x noted.noted (subst (λ v. IsScriptLine v callers row scripts caller x) noted.version_is line))
-note_line known callers rows row count version scripts (Some n) caller x none other noted line = cc none
+pub note_line : {C R : Type 0} (rules : Rules C R) (grammar : Grammar C) (known : Option Version) (callers : ℕ) (rows : List Row) (row : Row) (count : ℕ) (version : Version) (scripts : List (List C)) (bad : Option ℕ) (caller : ℕ) (x : C)
+    → is_some bad ≡ false → IsLaterOrKnown known rows row → IsNoted grammar known callers rows count version scripts bad → IsScriptLine rules grammar version callers row scripts caller x
+    → IsNoted grammar known callers (rows ++ row ∷ []) (count + 1) version (with_list scripts caller (list_of scripts caller ++ x ∷ [])) bad
+note_line rules grammar known callers rows row count version scripts None caller x none other noted line =
+    noted-as grammar known callers rows row count version _ None other noted.counted noted.version_is
+    (scripts-more rules grammar callers (file_as known rows) row scripts caller x noted.noted (subst (λ v. IsScriptLine rules grammar v callers row scripts caller x) noted.version_is line))
+note_line rules grammar known callers rows row count version scripts (Some n) caller x none other noted line = cc none
 
 -- after the first bad record what was noted is its number
-pub note_bad : (known : Option Version) (callers : ℕ) (rows : List Row) (row : Row) (count : ℕ) (version : Version) (scripts : List (List Command)) (bad : Option ℕ)
-    → is_some bad ≡ false → IsLaterOrKnown known rows row → IsNoted known callers rows count version scripts bad → keeps version callers row ≡ false
-    → IsNoted known callers (rows ++ row ∷ []) (count + 1) version scripts (Some (count + 1))
-note_bad known callers rows row count version scripts None none other noted breaks =
+pub note_bad : {C : Type 0} (grammar : Grammar C) (known : Option Version) (callers : ℕ) (rows : List Row) (row : Row) (count : ℕ) (version : Version) (scripts : List (List C)) (bad : Option ℕ)
+    → is_some bad ≡ false → IsLaterOrKnown known rows row → IsNoted grammar known callers rows count version scripts bad → keeps grammar version callers row ≡ false
+    → IsNoted grammar known callers (rows ++ row ∷ []) (count + 1) version scripts (Some (count + 1))
+note_bad grammar known callers rows row count version scripts None none other noted breaks =
     let file = file_as known rows in
     let number = file-number known rows in
     let counted = noted.counted in
-    let so_far : AreScriptsOf callers file scripts = noted.noted in
-    noted-as known callers rows row count version scripts (Some (count + 1)) other counted noted.version_is
+    let so_far : AreScriptsOf grammar callers file scripts = noted.noted in
+    noted-as grammar known callers rows row count version scripts (Some (count + 1)) other counted noted.version_is
     (let next : file.first + length file.lines ≡ count + 1 = omega arith in
-    first_bad_line-more file.version callers file.first file.lines (row ∷ []) so_far.good
-    ∙ rw (subst (λ v. keeps v callers row ≡ false) noted.version_is breaks) (ap Some next))
-note_bad known callers rows row count version scripts (Some m) none other noted breaks = cc none
+    first_bad_line-more grammar file.version callers file.first file.lines (row ∷ []) so_far.good
+    ∙ rw (subst (λ v. keeps grammar v callers row ≡ false) noted.version_is breaks) (ap Some next))
+note_bad grammar known callers rows row count version scripts (Some m) none other noted breaks = cc none
 
 -- after that what was noted stays
-pub note_more : (known : Option Version) (callers : ℕ) (rows : List Row) (row : Row) (count : ℕ) (version : Version) (scripts : List (List Command)) (bad : Option ℕ)
-    → is_some bad ≡ true → IsLaterOrKnown known rows row → IsNoted known callers rows count version scripts bad → IsNoted known callers (rows ++ row ∷ []) (count + 1) version scripts bad
-note_more known callers rows row count version scripts None some other noted = cc some
-note_more known callers rows row count version scripts (Some n) some other noted =
+pub note_more : {C : Type 0} (grammar : Grammar C) (known : Option Version) (callers : ℕ) (rows : List Row) (row : Row) (count : ℕ) (version : Version) (scripts : List (List C)) (bad : Option ℕ)
+    → is_some bad ≡ true → IsLaterOrKnown known rows row → IsNoted grammar known callers rows count version scripts bad → IsNoted grammar known callers (rows ++ row ∷ []) (count + 1) version scripts bad
+note_more grammar known callers rows row count version scripts None some other noted = cc some
+note_more grammar known callers rows row count version scripts (Some n) some other noted =
     let file = file_as known rows in
-    noted-as known callers rows row count version scripts (Some n) other noted.counted noted.version_is (first_bad_line-still file.version callers file.first n file.lines (row ∷ []) noted.noted)
+    noted-as grammar known callers rows row count version scripts (Some n) other noted.counted noted.version_is (first_bad_line-still grammar file.version callers file.first n file.lines (row ∷ []) noted.noted)

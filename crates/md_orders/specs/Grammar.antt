@@ -1,19 +1,18 @@
--- What a record writes: a caller and a command.
-use Rattle.std.specs.Prelude.{ℕ, ◌+◌, ◌-◌, ◌*◌, nat_le, ◌==◌, ◌&&◌, Bool, if◌then◌else◌, min, List, [], ◌∷◌, length}
+-- What records write: fields, callers and commands.
+use Rattle.std.specs.Prelude.{◌≡◌, ℕ, ◌+◌, ◌-◌, ◌*◌, nat_le, ◌==◌, ◌&&◌, Bool, if◌then◌else◌, min, List, [], ◌∷◌, length}
 use Rattle.std.specs.Prelude.{Option, Some, None, is_some, option_and_then}
 use Rattle.std.specs.Option.{option_map}
 use Rattle.std.specs.Char.{is_ascii_digit}
 use Rattle.csv.specs.Records.{field_at}
 use Rattle.md_book.specs.declared.commands.Side.{Side}
 use Rattle.md_book.specs.declared.commands.Side.TheVariants.{Buy, Sell}
-use Rattle.md_book.specs.declared.commands.Command.{Command}
-use Rattle.md_book.specs.declared.commands.Command.TheVariants.{Place, Cancel, Fill, Kill, Depth, Account}
 use Rattle.md_book.specs.declared.limits.TheConstants.{MAX_SCRIPT_LINE, MAX_ACCOUNT, MAX_PRICE, MAX_QUANTITY}
-use Rattle.md_book.specs.Commands.{name_of}
-use Rattle.md_orders.specs.declared.grammar.Terms.{Terms}
+use Rattle.md_book.specs.Commands.{IsName, name_of}
+use Rattle.md_book.specs.Rules.{Rules}
+use Rattle.md_orders.specs.declared.terms.Terms.{Terms}
 use Rattle.md_orders.specs.declared.version.Version.{Version}
 use Rattle.md_orders.specs.Records.{Row}
-use Rattle.md_orders.specs.Version.{places_of, max_caller, file_of}
+use Rattle.md_orders.specs.Version.{max_caller, file_as}
 
 -- the number that ASCII digits write after a number that stands before them
 unfoldable pub digits_after : ℕ → List ℕ → Option ℕ
@@ -71,62 +70,51 @@ terms_of row =
     record { account = account; side = side; price = price; quantity = quantity })
     (quantity_at row 5)) (price_at row 4)) (side_at row 3)) (account_at row 2)
 
--- caller, P, account, side, price, quantity; the order gets the name
-abbrev pub place_of : ℕ → Row → Option Command
-place_of name row = option_map (λ t. Place name t.account t.side t.price t.quantity) (terms_of row)
-
--- caller, C, caller of the order, line of the order
-abbrev pub cancel_of : Version → Row → Option Command
-cancel_of version row =
-    option_and_then (λ caller. option_map (λ line. Cancel (name_of caller line))
+-- the name of an order, by its caller and its line, after the caller and the kind
+abbrev pub order_at : Version → Row → Option ℕ
+order_at version row =
+    option_and_then (λ caller. option_map (λ line. name_of caller line)
     (number_at row 3 1 MAX_SCRIPT_LINE)) (number_at row 2 1 (max_caller version))
 
--- caller, F, account, side, price, quantity
-abbrev pub fill_of : Version → Row → Option Command
-fill_of version row = option_map (λ t. Fill t.account t.side t.price t.quantity (places_of version)) (terms_of row)
-
--- caller, K, account, side, price, quantity
-abbrev pub kill_of : Version → Row → Option Command
-kill_of version row = option_map (λ t. Kill t.account t.side t.price t.quantity (places_of version)) (terms_of row)
-
--- caller, D, side, price
-abbrev pub depth_of : Row → Option Command
-depth_of row = option_and_then (λ side. option_map (λ price. Depth side price) (price_at row 3)) (side_at row 2)
-
--- caller, A, account
-abbrev pub account_of : Row → Option Command
-account_of row = option_map (λ account. Account account) (account_at row 2)
-
--- the command that a record writes, by its kind (P, C, F, K, D or A) and its number of fields; a placed order gets the
--- name
-abbrev pub command_of_kind : Version → ℕ → Row → ℕ → Option Command
-command_of_kind version name row kind =
-    if (kind == 80) && (length row == 6) then place_of name row
-    else if (kind == 67) && (length row == 4) then cancel_of version row
-    else if (kind == 70) && (length row == 6) then fill_of version row
-    else if (kind == 75) && (length row == 6) then kill_of version row
-    else if (kind == 68) && (length row == 4) then depth_of row
-    else if (kind == 65) && (length row == 3) then account_of row
-    else None
-
--- the command that a record writes
-unfoldable pub command_of : Version → ℕ → Row → Option Command
-command_of version name row = option_and_then (command_of_kind version name row) (byte_at row 1)
+-- side and price, after the caller and the kind
+abbrev pub level_at : Row → Option (Side × ℕ)
+level_at row = option_and_then (λ side. option_map (λ price. (side, price)) (price_at row 3)) (side_at row 2)
 
 -- the caller of a record: one of those that there are, within the version's range
 unfoldable pub caller_of : Version → ℕ → Row → Option ℕ
 caller_of version callers row = number_at row 0 1 (min callers (max_caller version))
 
+-- How commands of a kind are written: the version of a file, if its first record doesn't tell it; the command that a
+-- record writes, whose order gets a name; and a command with another name for the order that it may place.
+pub record Grammar (C : Type 0) : Type 0 where
+  pub known : Option Version
+  pub command_of : Version → ℕ → Row → Option C
+  pub renamed : ℕ → C → C
+
+-- A grammar keeps its laws, by the rules of its commands: what is read for the name of a line is in range and has the
+-- name; read for another name it is the same, but for the name; with the name of a line a command stays in range, and has
+-- it; the last of two names counts; and with the name that it has a command stays as it is.
+pub record IsGrammar {C R : Type 0} (rules : Rules C R) (grammar : Grammar C) : Type 0 where
+  pub reads : (version : Version) (name : ℕ) (row : Row) (c : C) → IsName name
+      → grammar.command_of version name row ≡ Some c → rules.is_command c × rules.is_named name c
+  pub others : (version : Version) (n m : ℕ) (row : Row)
+      → grammar.command_of version m row ≡ option_map (grammar.renamed m) (grammar.command_of version n row)
+  pub renames : (name : ℕ) (c : C) → IsName name → rules.is_command c
+      → rules.is_command (grammar.renamed name c) × rules.is_named name (grammar.renamed name c)
+  pub twice : (n m : ℕ) (c : C) → grammar.renamed n (grammar.renamed m c) ≡ grammar.renamed n c
+  pub same : (name : ℕ) (c : C) → rules.is_named name c → grammar.renamed name c ≡ c
+
 -- a record keeps the grammar where it writes a caller and a command, whatever name an order of it gets
-abbrev pub keeps : Version → ℕ → Row → Bool
-keeps version callers row = is_some (caller_of version callers row) && is_some (command_of version 0 row)
+abbrev pub keeps : {C : Type 0} → Grammar C → Version → ℕ → Row → Bool
+keeps grammar version callers row = is_some (caller_of version callers row) && is_some (grammar.command_of version 0 row)
 
 -- the number, counted from n, of the first line's record that breaks the grammar
-abbrev pub first_bad_line : Version → ℕ → ℕ → List Row → Option ℕ
-first_bad_line version callers n [] = None
-first_bad_line version callers n (row ∷ rows) =
-    if keeps version callers row then first_bad_line version callers (n + 1) rows else Some n
+abbrev pub first_bad_line : {C : Type 0} → Grammar C → Version → ℕ → ℕ → List Row → Option ℕ
+first_bad_line grammar version callers n [] = None
+first_bad_line grammar version callers n (row ∷ rows) =
+    if keeps grammar version callers row then first_bad_line grammar version callers (n + 1) rows else Some n
 
 -- the number, counted from 1, of a file's first record that breaks the grammar
-abbrev pub first_bad : ℕ → List Row → Option ℕ
-first_bad callers rows = let file = file_of rows in first_bad_line file.version callers file.first file.lines
+abbrev pub first_bad : {C : Type 0} → Grammar C → ℕ → List Row → Option ℕ
+first_bad grammar callers rows =
+    let file = file_as grammar.known rows in first_bad_line grammar file.version callers file.first file.lines

@@ -2,6 +2,7 @@ pub mod Records
 pub mod Rows
 pub mod Version
 pub mod Grammar
+pub mod Orders
 pub mod Lists
 pub mod Scripts
 pub mod Noted

@@ -1,5 +1,5 @@
 -- The two versions of the order file.
-use Rattle.std.specs.Prelude.{ℕ, ◌==◌, ◌&&◌, if◌then◌else◌, Bool, false, List, [], ◌∷◌, length, codes}
+use Rattle.std.specs.Prelude.{ℕ, ◌==◌, ◌&&◌, if◌then◌else◌, Bool, false, Option, Some, None, List, [], ◌∷◌, length, codes}
 use Rattle.std.specs.Option.{option_map_or}
 use Rattle.std.specs.Str.{bytes_eq}
 use Rattle.csv.specs.Records.{field_at}
@@ -46,3 +46,8 @@ file_of [] = record { version = First; first = 1; lines = [] }
 file_of (row ∷ rows) =
     if is_version_record row then record { version = Second; first = 2; lines = rows }
     else record { version = First; first = 1; lines = row ∷ rows }
+
+-- the file of some records: the version that they show, or one that is known, in which each record is a line
+abbrev pub file_as : Option Version → List Row → OrderFile
+file_as None rows = file_of rows
+file_as (Some version) rows = record { version = version; first = 1; lines = rows }

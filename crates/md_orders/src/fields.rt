@@ -38,14 +38,14 @@ pub fn number_within(text: &[u8], low: u32, high: u32) -> Option<u32>
 }
 
 /// The number in a field, within a range.
-pub(crate) fn number_at(row: &ByteRecord, place: usize, low: u32, high: u32) -> Option<u32>
+pub fn number_at(row: &ByteRecord, place: usize, low: u32, high: u32) -> Option<u32>
     ensures { result ≡ number_at (fields_of row.now) place low high }
 {
     number_within(row.get(place)?, low, high)
 }
 
 /// The byte of a field that has one.
-pub(crate) fn byte_at(row: &ByteRecord, place: usize) -> Option<u8>
+pub fn byte_at(row: &ByteRecord, place: usize) -> Option<u8>
     ensures { result ≡ byte_at (fields_of row.now) place }
 {
     match row.get(place)? {
@@ -55,7 +55,7 @@ pub(crate) fn byte_at(row: &ByteRecord, place: usize) -> Option<u8>
 }
 
 /// The side that a field writes.
-pub(crate) fn side_at(row: &ByteRecord, place: usize) -> Option<Side>
+pub fn side_at(row: &ByteRecord, place: usize) -> Option<Side>
     ensures { result ≡ side_at (fields_of row.now) place }
 {
     match byte_at(row, place)? {

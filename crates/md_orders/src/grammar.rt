@@ -1,57 +1,20 @@
-//! The caller and the command that a record writes.
+//! The command of the order book that a record writes.
 
 ghost use Rattle.std.specs.Prelude.{◌≡◌};
 ghost use Rattle.csv.specs.Records.{fields_of};
+<<<<<<< HEAD
 ghost use Rattle.md_orders.specs.Grammar.{account_at, price_at, quantity_at, terms_of, place_of};
 ghost use Rattle.md_orders.specs.Grammar.{cancel_of, fill_of, kill_of, depth_of, account_of};
 ghost use Rattle.md_orders.specs.Grammar.{command_of, caller_of};
+=======
+ghost use Rattle.md_orders.specs.Orders.{place_of, cancel_of, fill_of, kill_of, depth_of, account_of, command_of};
+>>>>>>> a53120de (Draft: order files of any kind of command)
 
-use crate::fields::{byte_at, number_at, side_at};
+use crate::fields::byte_at;
+use crate::terms::{account_at, level_at, order_at, terms_of};
 use crate::version::Version;
 use csv::ByteRecord;
-use md_book::{Command, MAX_ACCOUNT, MAX_PRICE, MAX_QUANTITY, MAX_SCRIPT_LINE, Side, order_name};
-
-// What an order, a fill and a kill write alike.
-#[derive(Clone, Copy)]
-pub(crate) struct Terms {
-    account: u32,
-    side: Side,
-    price: u32,
-    quantity: u32,
-}
-
-fn account_at(row: &ByteRecord, place: usize) -> Option<u32>
-    ensures { result ≡ account_at (fields_of row.now) place }
-{
-    number_at(row, place, 1, MAX_ACCOUNT)
-}
-
-fn price_at(row: &ByteRecord, place: usize) -> Option<u32>
-    ensures { result ≡ price_at (fields_of row.now) place }
-{
-    number_at(row, place, 1, MAX_PRICE)
-}
-
-fn quantity_at(row: &ByteRecord, place: usize) -> Option<u32>
-    ensures { result ≡ quantity_at (fields_of row.now) place }
-{
-    number_at(row, place, 1, MAX_QUANTITY)
-}
-
-fn terms_of(row: &ByteRecord) -> Option<Terms>
-    ensures { result ≡ terms_of (fields_of row.now) }
-{
-    let account = account_at(row, 2)?;
-    let side = side_at(row, 3)?;
-    let price = price_at(row, 4)?;
-    let quantity = quantity_at(row, 5)?;
-    Some(Terms {
-        account,
-        side,
-        price,
-        quantity,
-    })
-}
+use md_book::Command;
 
 fn place_of(name: u64, row: &ByteRecord) -> Option<Command>
     ensures { result ≡ place_of name (fields_of row.now) }
@@ -69,11 +32,8 @@ fn place_of(name: u64, row: &ByteRecord) -> Option<Command>
 fn cancel_of(version: Version, row: &ByteRecord) -> Option<Command>
     ensures { result ≡ cancel_of version (fields_of row.now) }
 {
-    let caller = number_at(row, 2, 1, version.max_caller())?;
-    let line = number_at(row, 3, 1, MAX_SCRIPT_LINE)?;
-    Some(Command::Cancel {
-        name: order_name(caller, line),
-    })
+    let name = order_at(version, row)?;
+    Some(Command::Cancel { name })
 }
 
 fn fill_of(version: Version, row: &ByteRecord) -> Option<Command>
@@ -105,8 +65,7 @@ fn kill_of(version: Version, row: &ByteRecord) -> Option<Command>
 fn depth_of(row: &ByteRecord) -> Option<Command>
     ensures { result ≡ depth_of (fields_of row.now) }
 {
-    let side = side_at(row, 2)?;
-    let price = price_at(row, 3)?;
+    let (side, price) = level_at(row)?;
     Some(Command::Depth { side, price })
 }
 
@@ -118,7 +77,7 @@ fn account_of(row: &ByteRecord) -> Option<Command>
 }
 
 /// The command that a record writes; an order that it places gets the name.
-#[tactic(auto, unfolding(crate::specs::Grammar::command_of))]
+#[tactic(auto, unfolding(crate::specs::Orders::command_of))]
 pub(crate) fn command_of(version: Version, name: u64, row: &ByteRecord) -> Option<Command>
     ensures { result ≡ command_of version name (fields_of row.now) }
 {
@@ -131,12 +90,4 @@ pub(crate) fn command_of(version: Version, name: u64, row: &ByteRecord) -> Optio
         (b'A', 3) => account_of(row),
         _ => None,
     }
-}
-
-/// The caller of a record, from 1 to `callers` and within the version's range.
-#[tactic(auto, unfolding(crate::specs::Grammar::caller_of))]
-pub(crate) fn caller_of(version: Version, callers: u32, row: &ByteRecord) -> Option<u32>
-    ensures { result ≡ caller_of version callers (fields_of row.now) }
-{
-    number_at(row, 0, 1, callers.min(version.max_caller()))
 }

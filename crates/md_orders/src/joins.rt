@@ -6,23 +6,29 @@ ghost use Rattle.md_orders.specs.Records.{Row, max_records};
 ghost use Rattle.md_orders.specs.Noted.{AreNotes, IsReadAsNotes};
 
 use crate::read::{MAX_RECORDS, Notes, OrderFault};
+use crate::script_commands::ScriptCommand;
 use md_book::MAX_CALLER;
 
 // What is noted of a file, from what was noted of two parts of it: orders get the names of their
 // lines in the file, and the first record that breaks the grammar gets its number there. The
 // result is `TooMany` if the parts together have more than 1,000,000 records, and may be
 // `NoMemory` if memory runs out.
-fn join_notes(mut first: Notes, second: Notes, callers: u32) -> Result<Notes, OrderFault>
+fn join_notes<C: ScriptCommand>(
+    mut first: Notes<C>,
+    second: Notes<C>,
+    callers: u32,
+) -> Result<Notes<C>, OrderFault>
     requires few { callers ≤ MAX_CALLER }
     requires counts { (first.count ≤ max_records) × (second.count ≤ max_records) }
     requires notes { (low : List Row) × (high : List Row)
-        × AreNotes (Some first.version) callers low first
-        × AreNotes (Some first.version) callers high second }
+        × AreNotes C.grammar (Some first.version) callers low first
+        × AreNotes C.grammar (Some first.version) callers high second }
     ensures { (low : List Row) → (high : List Row)
-        → AreNotes (Some first.version) callers low first
-        → AreNotes (Some first.version) callers high second
-        → IsReadAsNotes (Some first.version) callers (low ++ high) result }
+        → AreNotes C.grammar (Some first.version) callers low first
+        → AreNotes C.grammar (Some first.version) callers high second
+        → IsReadAsNotes C.grammar (Some first.version) callers (low ++ high) result }
 {
+    C::grammar_holds();
     let before = first.count;
     first.count += second.count;
     if first.count > MAX_RECORDS {
@@ -45,19 +51,26 @@ fn join_notes(mut first: Notes, second: Notes, callers: u32) -> Result<Notes, Or
 }
 
 /// What a read of a file returns, from what the reads of its two parts returned.
-pub(crate) fn join_reads(
-    first: Result<Notes, OrderFault>,
-    second: Result<Notes, OrderFault>,
+pub(crate) fn join_reads<C: ScriptCommand>(
+    first: Result<Notes<C>, OrderFault>,
+    second: Result<Notes<C>, OrderFault>,
     callers: u32,
-) -> Result<Notes, OrderFault>
+) -> Result<Notes<C>, OrderFault>
     requires few { callers ≤ MAX_CALLER }
     requires reads { (version : Version) × (low : List Row) × (high : List Row)
+<<<<<<< HEAD
         × IsReadAsNotes (Some version) callers low first
         × IsReadAsNotes (Some version) callers high second }
     ensures { (version : Version) → (low : List Row) → (high : List Row)
         → IsReadAsNotes (Some version) callers low first
         → IsReadAsNotes (Some version) callers high second
         → IsReadAsNotes (Some version) callers (low ++ high) result }
+=======
+        × IsReadAsNotes C.grammar (Some version) callers low first × IsReadAsNotes C.grammar (Some version) callers high second }
+    ensures { (version : Version) → (low : List Row) → (high : List Row)
+        → IsReadAsNotes C.grammar (Some version) callers low first → IsReadAsNotes C.grammar (Some version) callers high second
+        → IsReadAsNotes C.grammar (Some version) callers (low ++ high) result }
+>>>>>>> a53120de (Draft: order files of any kind of command)
 {
     join_notes(first?, second?, callers)
 }

@@ -3,7 +3,7 @@
 ghost use Rattle.std.specs.Prelude.{◌≡◌, ◌<◌, ◌≤◌, ◌+◌, ◌%◌, IfOk};
 ghost use Rattle.md_book.specs.Commands.{IsCommand, name_of};
 ghost use Rattle.md_orders.specs.Records.{max_records};
-ghost use Rattle.md_orders.specs.Scripts.{IsNamed};
+ghost use Rattle.md_book.specs.OrderRules.{IsNamed};
 ghost use Rattle.md_orders.specs.Generator.{AreMade};
 ghost use Rattle.md_orders.specs.Maker.{maker_at, made_at};
 
@@ -86,7 +86,12 @@ impl Maker {
 /// `callers` callers, 1 to `MAX_MADE_CALLERS`. The number may be any.
 ///
 /// `AllocError` if memory runs out.
-pub fn make(alloc: Global, number: u32, lines: u32, callers: u32) -> Result<Scripts, AllocError>
+pub fn make(
+    alloc: Global,
+    number: u32,
+    lines: u32,
+    callers: u32,
+) -> Result<Scripts<Command>, AllocError>
     requires lines { (1 ≤ lines) × (lines ≤ max_records) }
     requires callers { (1 ≤ callers) × (callers ≤ MAX_MADE_CALLERS) }
     ensures { IfOk result (AreMade number lines callers) }

@@ -10,12 +10,13 @@ ghost use Rattle.md_orders.specs.ScriptLine.{IsScriptLine};
 ghost use Rattle.md_orders.specs.Noted.{AreNotes, AreAllNoted, IsReadAsNotes, shows_version_2};
 ghost use Rattle.md_orders.specs.Rows.{IsReadSoFar};
 
-use crate::grammar::{caller_of, command_of};
 use crate::reading::{read_row, reader_of};
+use crate::script_commands::ScriptCommand;
 use crate::scripts::Scripts;
+use crate::terms::caller_of;
 use crate::version::{Version, begins_version_2};
 use csv::{ByteRecord, Reader};
-use md_book::{Command, MAX_CALLER, order_name};
+use md_book::{MAX_CALLER, order_name};
 use std::alloc::{AllocError, Global};
 
 /// Why an order file was refused.
@@ -46,28 +47,30 @@ fn likely_lines(bytes: &[u8]) -> u32 {
 // lines, and the number of the first record that breaks the grammar. After such a record no scripts
 // are kept.
 #[derive(Drop)]
-pub(crate) struct Notes {
+pub(crate) struct Notes<C: ScriptCommand> {
     pub(crate) count: u32,
     pub(crate) version: Version,
-    pub(crate) scripts: Scripts,
+    pub(crate) scripts: Scripts<C>,
     pub(crate) bad: Option<u32>,
 }
 
 // The caller and the command of a record, which stands at the caller's next line.
-fn line_of(
-    scripts: &Scripts,
+fn line_of<C: ScriptCommand>(
+    scripts: &Scripts<C>,
     version: Version,
     callers: u32,
     row: &ByteRecord,
-) -> Option<(u32, Command)>
+) -> Option<(u32, C)>
     requires room { count_of scripts.now < max_records }
-    ensures none { IfNone result (keeps version callers (fields_of row.now) ≡ false) }
+    ensures none { IfNone result (keeps C.grammar version callers (fields_of row.now) ≡ false) }
     ensures some { IfSome result (λ line.
-        IsScriptLine version callers (fields_of row.now) scripts.now line.0 line.1) }
+        IsScriptLine C.book_rules C.grammar version callers (fields_of row.now)
+        scripts.now line.0 line.1) }
 {
+    C::grammar_holds();
     let caller = caller_of(version, callers, row)?;
     let name = order_name(caller, scripts.len(caller) + 1);
-    let command = command_of(version, name, row)?;
+    let command = C::read(version, name, row)?;
     Some((caller, command))
 }
 
@@ -79,16 +82,16 @@ fn shows_version_2(known: Option<Version>, number: u32, row: &ByteRecord) -> boo
 }
 
 // Notes the next record. If the version is known, each record is a line of it.
-fn note(
-    notes: &mut Notes,
+fn note<C: ScriptCommand>(
+    notes: &mut Notes<C>,
     known: Option<Version>,
     callers: u32,
     row: &ByteRecord,
 ) -> Result<(), AllocError>
     requires few { notes.old.count < max_records }
-    requires noted { (rows : List Row) × AreNotes known callers rows notes.old }
-    ensures { OnOk result ((rows : List Row) → AreNotes known callers rows notes.old
-        → AreNotes known callers (rows ++ fields_of row.now ∷ []) notes.new) }
+    requires noted { (rows : List Row) × AreNotes C.grammar known callers rows notes.old }
+    ensures { OnOk result ((rows : List Row) → AreNotes C.grammar known callers rows notes.old
+        → AreNotes C.grammar known callers (rows ++ fields_of row.now ∷ []) notes.new) }
 {
     let number = notes.count + 1;
     notes.count = number;
@@ -105,17 +108,17 @@ fn note(
 
 // Reads records one by one, up to their end, and notes each. The result is false if there are more
 // than an order file may have.
-fn note_rows(
+fn note_rows<C: ScriptCommand>(
     reader: &mut Reader<&[u8]>,
     row: &mut ByteRecord,
-    notes: &mut Notes,
+    notes: &mut Notes<C>,
     known: Option<Version>,
     callers: u32,
 ) -> Result<bool, AllocError>
     requires unread { (bytes : List ℕ) × IsReadSoFar bytes reader.old [] }
-    requires none { AreNotes known callers [] notes.old }
+    requires none { AreNotes C.grammar known callers [] notes.old }
     ensures { IfOk result (λ all. (bytes : List ℕ) → IsReadSoFar bytes reader.old []
-        → AreAllNoted known callers (order_records bytes) notes.new all) }
+        → AreAllNoted C.grammar known callers (order_records bytes) notes.new all) }
 {
     for _before in 0..MAX_RECORDS {
         if !read_row(reader, row)? {
@@ -128,15 +131,15 @@ fn note_rows(
 
 // Reads the records of a text, and notes each. The result is false if there are more than an order
 // file may have.
-fn note_all(
+fn note_all<C: ScriptCommand>(
     alloc: Global,
     bytes: &[u8],
-    notes: &mut Notes,
+    notes: &mut Notes<C>,
     known: Option<Version>,
     callers: u32,
 ) -> Result<bool, AllocError>
-    requires { AreNotes known callers [] notes.old }
-    ensures { IfOk result (AreAllNoted known callers (order_records bytes.now) notes.new) }
+    requires { AreNotes C.grammar known callers [] notes.old }
+    ensures { IfOk result (AreAllNoted C.grammar known callers (order_records bytes.now) notes.new) }
 {
     let mut reader = reader_of(alloc, bytes);
     let mut row = ByteRecord::new(alloc);
@@ -144,13 +147,13 @@ fn note_all(
 }
 
 // Notes of no records.
-fn no_notes(
+fn no_notes<C: ScriptCommand>(
     alloc: Global,
     callers: u32,
     known: Option<Version>,
     room: u32,
-) -> Result<Notes, AllocError>
-    ensures { IfOk result (AreNotes known callers []) }
+) -> Result<Notes<C>, AllocError>
+    ensures { IfOk result (AreNotes C.grammar known callers []) }
 {
     Ok(Notes {
         count: 0,
@@ -166,14 +169,14 @@ fn no_notes(
 /// The result is `TooMany` if there are more than 1,000,000 records. In place of any result it may
 /// be `NoMemory`, if memory runs out. It is never `BadLine`: the notes have the number of the first
 /// record that breaks the grammar.
-pub(crate) fn read_records(
+pub(crate) fn read_records<C: ScriptCommand>(
     alloc: Global,
     bytes: &[u8],
     callers: u32,
     known: Option<Version>,
-) -> Result<Notes, OrderFault>
+) -> Result<Notes<C>, OrderFault>
     requires { (1 ≤ callers) × (callers ≤ MAX_CALLER) }
-    ensures { IsReadAsNotes known callers (order_records bytes.now) result }
+    ensures { IsReadAsNotes C.grammar known callers (order_records bytes.now) result }
 {
     let Ok(mut notes) = no_notes(alloc, callers, known, likely_lines(bytes) / callers) else {
         return Err(OrderFault::NoMemory);
@@ -194,17 +197,21 @@ pub(crate) fn read_records(
 /// result is `TooMany` if there are more than 1,000,000 records, and otherwise `BadLine(n)` if
 /// record n is the first that breaks the grammar. In place of any result it may be `NoMemory`, if
 /// memory runs out. The bytes are read once, up to their end or to record 1,000,001.
-pub fn read_orders(alloc: Global, bytes: &[u8], callers: u32) -> Result<Scripts, OrderFault>
+pub fn read_orders<C: ScriptCommand>(
+    alloc: Global,
+    bytes: &[u8],
+    callers: u32,
+) -> Result<Scripts<C>, OrderFault>
     requires { (1 ≤ callers) × (callers ≤ MAX_CALLER) }
     ensures scripts { IfOk result (λ scripts. AreFewRecords (order_records bytes.now)
-        × AreScripts callers (order_records bytes.now) scripts) }
+        × AreScripts C.grammar callers (order_records bytes.now) scripts) }
     ensures too_many { IsErrOf result OrderFault.TooMany
         → ¬ AreFewRecords (order_records bytes.now) }
     ensures bad_line { (n : ℕ) → IsErrOf result (OrderFault.BadLine n)
         → AreFewRecords (order_records bytes.now)
-        × (first_bad callers (order_records bytes.now) ≡ Some n) }
+        × (first_bad C.grammar callers (order_records bytes.now) ≡ Some n) }
 {
-    let notes = read_records(alloc, bytes, callers, None)?;
+    let notes = read_records(alloc, bytes, callers, C::version())?;
     match notes.bad {
         Some(number) => Err(OrderFault::BadLine(number)),
         None => Ok(notes.scripts),

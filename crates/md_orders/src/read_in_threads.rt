@@ -1,6 +1,7 @@
 //! Reading an order file in threads.
 
-ghost use Rattle.std.specs.Prelude.{◌≡◌, ◌≤◌, ◌∷◌, ℕ, List, Some, IfOk, IsErrOf};
+ghost use Rattle.std.specs.Prelude.{◌≡◌, ◌≤◌, ◌∷◌, ℕ, List, Some, None, IfOk, IsErrOf};
+ghost use Rattle.md_orders.specs.declared.version.Version.{Version};
 ghost use Rattle.std.specs.Thread.{IsSync};
 ghost use Rattle.md_orders.specs.Records.{Row, order_records, AreFewRecords};
 ghost use Rattle.md_orders.specs.Version.{version_record};
@@ -11,6 +12,7 @@ ghost use Rattle.md_orders.specs.Noted.{AreNotes, IsReadAsNotes, IsReadAs};
 use crate::cuts::{cut_off, lines_of_version_2};
 use crate::joins::join_reads;
 use crate::read::{MAX_RECORDS, Notes, OrderFault, read_orders, read_records};
+use crate::script_commands::ScriptCommand;
 use crate::scripts::Scripts;
 use crate::version::Version;
 use md_book::MAX_CALLER;
@@ -33,16 +35,16 @@ fn parts_for(callers: u32) -> u32 {
 // first part, and another goes on with the rest. If no cut is known to be right, this thread reads
 // them all.
 #[cycle(parts)]
-fn read_parts<R: Threads + Sync>(
+fn read_parts<R: Threads + Sync, C: ScriptCommand>(
     rt: &R,
     alloc: Global,
     bytes: &[u8],
     callers: u32,
     version: Version,
     parts: u32,
-) -> Result<Notes, OrderFault>
+) -> Result<Notes<C>, OrderFault>
     requires { (1 ≤ callers) × (callers ≤ MAX_CALLER) }
-    ensures { IsReadAsNotes (Some version) callers (order_records bytes.now) result }
+    ensures { IsReadAsNotes C.grammar (Some version) callers (order_records bytes.now) result }
 {
     let Some((low, high)) = cut_off(bytes, parts) else {
         return read_records(alloc, bytes, callers, Some(version));
@@ -50,14 +52,14 @@ fn read_parts<R: Threads + Sync>(
     let fewer = parts - 1;
     let (first, second) = thread::join(
         rt,
-        move || -> Result<Notes, OrderFault>
+        move || -> Result<Notes<C>, OrderFault>
             requires range { (1 ≤ callers) × (callers ≤ MAX_CALLER) }
-            ensures { IsReadAsNotes (Some version) callers (order_records low.entry.now) result }
+            ensures { IsReadAsNotes C.grammar (Some version) callers (order_records low.entry.now) result }
         { read_records(alloc, low, callers, Some(version)) },
-        move || -> Result<Notes, OrderFault>
+        move || -> Result<Notes<C>, OrderFault>
             requires sync { IsSync R.row }
             requires range { (1 ≤ callers) × (callers ≤ MAX_CALLER) }
-            ensures { IsReadAsNotes (Some version) callers (order_records high.entry.now) result }
+            ensures { IsReadAsNotes C.grammar (Some version) callers (order_records high.entry.now) result }
         { read_parts(rt, alloc, high, callers, version, fewer) },
     );
     join_reads(first, second, callers)
@@ -65,12 +67,13 @@ fn read_parts<R: Threads + Sync>(
 
 // The scripts of a file of version 2, from what was noted of its lines. They stand after its first
 // record, which counts as one, too.
-fn scripts_of_version_2(notes: Notes) -> Result<Scripts, OrderFault>
-    requires { (callers : ℕ) × (lines : List Row)
-        × AreNotes (Some Version.Second) callers lines notes × AreFewRecords lines }
+fn scripts_of_version_2<C: ScriptCommand>(notes: Notes<C>) -> Result<Scripts<C>, OrderFault>
+    requires told { C.grammar.known ≡ None }
+    requires notes { (callers : ℕ) × (lines : List Row)
+        × AreNotes C.grammar (Some Version.Second) callers lines notes × AreFewRecords lines }
     ensures { (callers : ℕ) → (lines : List Row)
-        → AreNotes (Some Version.Second) callers lines notes → AreFewRecords lines
-        → IsReadAs callers (version_record ∷ lines) result }
+        → AreNotes C.grammar (Some Version.Second) callers lines notes → AreFewRecords lines
+        → IsReadAs C.grammar callers (version_record ∷ lines) result }
 {
     if notes.count == MAX_RECORDS {
         return Err(OrderFault::TooMany);
@@ -82,40 +85,77 @@ fn scripts_of_version_2(notes: Notes) -> Result<Scripts, OrderFault>
 }
 
 // Reads the lines of a file of version 2, which stand after its first record.
-fn read_version_2<R: Threads + Sync>(
+fn read_version_2<R: Threads + Sync, C: ScriptCommand>(
     rt: &R,
     alloc: Global,
     lines: &[u8],
     callers: u32,
     parts: u32,
-) -> Result<Scripts, OrderFault>
-    requires { (1 ≤ callers) × (callers ≤ MAX_CALLER) }
-    ensures { IsReadAs callers (version_record ∷ order_records lines.now) result }
+) -> Result<Scripts<C>, OrderFault>
+    requires told { C.grammar.known ≡ None }
+    requires range { (1 ≤ callers) × (callers ≤ MAX_CALLER) }
+    ensures { IsReadAs C.grammar callers (version_record ∷ order_records lines.now) result }
 {
     scripts_of_version_2(read_parts(rt, alloc, lines, callers, Version::Second, parts)?)
 }
 
-// Reads the scripts of an order file, as `read_orders` does, in at most so many parts, or in one if
-// that is 0.
-fn read_in_parts<R: Threads + Sync>(
+// The scripts of a file, each of whose records is a line of a known version, from what was noted of
+// them.
+fn scripts_of_lines<C: ScriptCommand>(notes: Notes<C>) -> Result<Scripts<C>, OrderFault>
+    requires { (version : Version) × (callers : ℕ) × (lines : List Row)
+        × (C.grammar.known ≡ Some version)
+        × AreNotes C.grammar (Some version) callers lines notes × AreFewRecords lines }
+    ensures { (version : Version) → (callers : ℕ) → (lines : List Row)
+        → C.grammar.known ≡ Some version
+        → AreNotes C.grammar (Some version) callers lines notes → AreFewRecords lines
+        → IsReadAs C.grammar callers lines result }
+{
+    match notes.bad {
+        Some(number) => Err(OrderFault::BadLine(number)),
+        None => Ok(notes.scripts),
+    }
+}
+
+// Reads the scripts of a file whose first record tells its version, in at most so many parts, or in
+// one if that is 0.
+fn read_told<R: Threads + Sync, C: ScriptCommand>(
     rt: &R,
     alloc: Global,
     bytes: &[u8],
     callers: u32,
     parts: u32,
-) -> Result<Scripts, OrderFault>
-    requires { (1 ≤ callers) × (callers ≤ MAX_CALLER) }
-    ensures { IsReadAs callers (order_records bytes.now) result }
+) -> Result<Scripts<C>, OrderFault>
+    requires told { C.grammar.known ≡ None }
+    requires range { (1 ≤ callers) × (callers ≤ MAX_CALLER) }
+    ensures { IsReadAs C.grammar callers (order_records bytes.now) result }
 {
     if let Some(lines) = lines_of_version_2(bytes) {
         return read_version_2(rt, alloc, lines, callers, parts);
     }
-    let notes = read_parts(rt, alloc, bytes, callers, Version::First, parts)?;
+    let notes: Notes<C> = read_parts(rt, alloc, bytes, callers, Version::First, parts)?;
     match notes.bad {
         None => Ok(notes.scripts),
         Some(number) if number > 1 => Err(OrderFault::BadLine(number)),
         // It may be the record of version 2, which breaks the grammar of version 1.
         Some(_) => read_orders(alloc, bytes, callers),
+    }
+}
+
+// Reads the scripts of an order file, as `read_orders` does, in at most so many parts, or in one if
+// that is 0.
+fn read_in_parts<R: Threads + Sync, C: ScriptCommand>(
+    rt: &R,
+    alloc: Global,
+    bytes: &[u8],
+    callers: u32,
+    parts: u32,
+) -> Result<Scripts<C>, OrderFault>
+    requires { (1 ≤ callers) × (callers ≤ MAX_CALLER) }
+    ensures { IsReadAs C.grammar callers (order_records bytes.now) result }
+{
+    match C::version() {
+        None => read_told(rt, alloc, bytes, callers, parts),
+        Some(version) => scripts_of_lines(read_parts(rt, alloc, bytes, callers, version, parts)?),
     }
 }
 
@@ -136,20 +176,20 @@ fn read_in_parts<R: Threads + Sync>(
 ///
 /// Otherwise the bytes are read once, after a search for double quotes. No command is copied when
 /// the parts are put together.
-pub fn read_orders_in_threads<R: Threads + Sync>(
+pub fn read_orders_in_threads<R: Threads + Sync, C: ScriptCommand>(
     rt: &R,
     alloc: Global,
     bytes: &[u8],
     callers: u32,
-) -> Result<Scripts, OrderFault>
+) -> Result<Scripts<C>, OrderFault>
     requires { (1 ≤ callers) × (callers ≤ MAX_CALLER) }
     ensures scripts { IfOk result (λ scripts. AreFewRecords (order_records bytes.now)
-        × AreScripts callers (order_records bytes.now) scripts) }
+        × AreScripts C.grammar callers (order_records bytes.now) scripts) }
     ensures too_many { IsErrOf result OrderFault.TooMany
         → ¬ AreFewRecords (order_records bytes.now) }
     ensures bad_line { (n : ℕ) → IsErrOf result (OrderFault.BadLine n)
         → AreFewRecords (order_records bytes.now)
-        × (first_bad callers (order_records bytes.now) ≡ Some n) }
+        × (first_bad C.grammar callers (order_records bytes.now) ≡ Some n) }
 {
     if bytes.len() < MIN_BYTES {
         return read_orders(alloc, bytes, callers);

@@ -3,14 +3,16 @@
 ghost use Rattle.std.specs.Prelude.{◌≡◌, ◌+◌, ◌<◌, ◌≤◌, ◌++◌, ◌∷◌, [], length, map, replicate};
 ghost use Rattle.std.specs.Prelude.{IfOk, IfSome, OnOk, OnErr};
 ghost use Rattle.std.specs.List.{zip};
-ghost use Rattle.md_book.specs.Commands.{IsCommand, name_of};
+ghost use Rattle.md_book.specs.Commands.{name_of};
+ghost use Rattle.md_book.specs.Rules.{AreNamedAt};
 ghost use Rattle.md_orders.specs.Records.{max_records};
-ghost use Rattle.md_orders.specs.Scripts.{list_of, with_list, at_line, count_of, IsNamed, AreNamed};
-ghost use Rattle.md_orders.specs.Renamed.{renamed, renamed_from};
+ghost use Rattle.md_orders.specs.Scripts.{list_of, with_list, at_line, count_of};
+ghost use Rattle.md_orders.specs.Renamed.{renamed_from};
 ghost use Rattle.md_orders.specs.Joined.{AreJoined};
 
+use crate::script_commands::ScriptCommand;
 use crate::segments::Segments;
-use md_book::{Command, MAX_CALLER, order_name};
+use md_book::{MAX_CALLER, order_name};
 use std::alloc::{AllocError, Global};
 use std::marker::Model;
 
@@ -20,26 +22,30 @@ use std::marker::Model;
 /// The name of an order is that of its caller and line, whatever name is stored with the command.
 /// So the parts of a file are put together without a copy of their commands.
 #[derive(Drop)]
-pub struct Scripts {
-    scripts: Vec<Segments>,
+pub struct Scripts<C: ScriptCommand> {
+    scripts: Vec<Segments<C>>,
     total: u32,
 }
 
-impl Model for Scripts {
+impl<C: ScriptCommand> Model for Scripts<C> {
     ghost use Rattle.std.specs.Prelude.{List};
-    ghost use Rattle.md_book.specs.declared.commands.Command.{Command};
     ghost use Rattle.md_orders.specs.Scripts.{AreKept};
     ghost use Rattle.md_orders.specs.Renamed.{scripts_from};
 
-    ghost Value = { List (List Command) };
+    ghost Value = { List (List C) };
 
-    ghost view = { λ s. scripts_from 1 s.scripts.items };
+    ghost view = { λ s. scripts_from C.grammar 1 s.scripts.items };
 
-    ghost invariant = { λ s. AreKept s.total (scripts_from 1 s.scripts.items) };
+    ghost invariant = { λ s. AreKept C.book_rules s.total
+        (scripts_from C.grammar 1 s.scripts.items) };
 }
 
 // The commands of callers that have none, with room for so many of each.
-fn no_commands(alloc: Global, callers: u32, room: u32) -> Result<Vec<Segments>, AllocError>
+fn no_commands<C: Copy + Drop>(
+    alloc: Global,
+    callers: u32,
+    room: u32,
+) -> Result<Vec<Segments<C>>, AllocError>
     ensures { IfOk result (λ lists. lists.items ≡ replicate callers []) }
 {
     let mut lists = Vec::with_capacity(alloc, callers as usize)?;
@@ -50,7 +56,11 @@ fn no_commands(alloc: Global, callers: u32, room: u32) -> Result<Vec<Segments>, 
 }
 
 // Adds a command to those of its caller.
-fn push_to(lists: &mut Vec<Segments>, caller: u32, command: Command) -> Result<(), AllocError>
+fn push_to<C: Copy + Drop>(
+    lists: &mut Vec<Segments<C>>,
+    caller: u32,
+    command: C,
+) -> Result<(), AllocError>
     requires from_1 { 1 ≤ caller }
     requires there { caller ≤ length lists.old.items }
     ensures ok { OnOk result (lists.new.items
@@ -62,7 +72,11 @@ fn push_to(lists: &mut Vec<Segments>, caller: u32, command: Command) -> Result<(
 }
 
 // Adds a caller's commands and, behind them, others of that caller.
-fn push_joined(lists: &mut Vec<Segments>, low: Segments, high: Segments) -> Result<(), AllocError>
+fn push_joined<C: Copy + Drop>(
+    lists: &mut Vec<Segments<C>>,
+    low: Segments<C>,
+    high: Segments<C>,
+) -> Result<(), AllocError>
     ensures { OnOk result (lists.new.items ≡ lists.old.items ++ (low ++ high) ∷ []) }
 {
     lists.push(low.joined(high)?)?;
@@ -70,10 +84,10 @@ fn push_joined(lists: &mut Vec<Segments>, low: Segments, high: Segments) -> Resu
 }
 
 // The commands of each caller, and behind them others of that caller.
-fn joined_by_caller(
-    first: Vec<Segments>,
-    second: Vec<Segments>,
-) -> Result<Vec<Segments>, AllocError>
+fn joined_by_caller<C: Copy + Drop>(
+    first: Vec<Segments<C>>,
+    second: Vec<Segments<C>>,
+) -> Result<Vec<Segments<C>>, AllocError>
     ensures { IfOk result (λ lists. lists.items
         ≡ map (λ both. both.0 ++ both.1) (zip first.items second.items)) }
 {
@@ -84,32 +98,14 @@ fn joined_by_caller(
     Ok(lists)
 }
 
-// A command with this name for the order that it places, if it places one.
-fn renamed(name: u64, command: Command) -> Command
-    ensures { result ≡ renamed name command }
-{
-    match command {
-        Command::Place {
-            account,
-            side,
-            price,
-            quantity,
-            ..
-        } => Command::Place {
-            name,
-            account,
-            side,
-            price,
-            quantity,
-        },
-        other => other,
-    }
-}
-
-impl Scripts {
+impl<C: ScriptCommand> Scripts<C> {
     /// Empty scripts for `callers` callers, with room for `room` commands of each: any number.
     /// `AllocError` if memory runs out.
-    pub(crate) fn empty(alloc: Global, callers: u32, room: u32) -> Result<Scripts, AllocError>
+    pub(crate) fn empty(
+        alloc: Global,
+        callers: u32,
+        room: u32,
+    ) -> Result<Scripts<C>, AllocError>
         ensures { IfOk result (λ s. s ≡ replicate callers []) }
     {
         let scripts = no_commands(alloc, callers, room)?;
@@ -118,16 +114,17 @@ impl Scripts {
 
     /// Adds a command at the end of its caller's script. `AllocError` if memory runs out; then
     /// nothing changes.
-    pub(crate) fn add(&mut self, caller: u32, command: Command) -> Result<(), AllocError>
+    pub(crate) fn add(&mut self, caller: u32, command: C) -> Result<(), AllocError>
         requires from_1 { 1 ≤ caller }
         requires there { caller ≤ length self.old }
         requires room { count_of self.old < max_records }
-        requires lawful { IsCommand command
-            × IsNamed (name_of caller (length (list_of self.old caller) + 1)) command }
+        requires lawful { C.book_rules.is_command command
+            × C.book_rules.is_named (name_of caller (length (list_of self.old caller) + 1)) command }
         ensures ok { OnOk result (self.new
             ≡ with_list self.old caller (list_of self.old caller ++ command ∷ [])) }
         ensures err { OnErr result (self.new ≡ self.old) }
     {
+        C::grammar_holds();
         push_to(&mut self.scripts, caller, command)?;
         self.total += 1;
         Ok(())
@@ -137,12 +134,13 @@ impl Scripts {
     /// follows. `AllocError` if memory runs out.
     ///
     /// The call makes a few moves for each caller, and copies no command.
-    pub(crate) fn joined(self, more: Scripts) -> Result<Scripts, AllocError>
+    pub(crate) fn joined(self, more: Scripts<C>) -> Result<Scripts<C>, AllocError>
         requires same { length more ≡ length self }
         requires few { length self ≤ MAX_CALLER }
         requires room { count_of self + count_of more ≤ max_records }
-        ensures { IfOk result (AreJoined self more) }
+        ensures { IfOk result (AreJoined C.grammar self more) }
     {
+        C::grammar_holds();
         let Scripts {
             scripts: first,
             total: before,
@@ -160,12 +158,12 @@ impl Scripts {
 
     /// The commands of a caller as they are stored, where an order may have any name. There is such
     /// a caller.
-    pub fn stored(&self, caller: u32) -> &Segments
+    pub fn stored(&self, caller: u32) -> &Segments<C>
         requires from_1 { 1 ≤ caller }
         requires there { caller ≤ length self.now }
-        ensures script { list_of self.now caller ≡ renamed_from caller 1 result.now }
+        ensures script { list_of self.now caller ≡ renamed_from C.grammar caller 1 result.now }
         ensures few { length result.now ≤ max_records }
-        ensures lawful { AreNamed self.now }
+        ensures lawful { AreNamedAt C.book_rules (at_line self.now) }
     {
         &self.scripts[caller as usize - 1]
     }
@@ -199,22 +197,23 @@ impl Scripts {
 
     /// The command of a caller's line. Its numbers are in range, and if it places an order, the
     /// order has the name of this line. `None` exactly if there is no such line.
-    pub fn command(&self, caller: u32, line: u32) -> Option<Command>
+    pub fn command(&self, caller: u32, line: u32) -> Option<C>
         ensures value { result ≡ at_line self.now caller line }
-        ensures lawful { IfSome result (λ c. IsCommand c × IsNamed (name_of caller line) c) }
+        ensures lawful { IfSome result (λ c. C.book_rules.is_command c
+            × C.book_rules.is_named (name_of caller line) c) }
     {
         if caller == 0 || caller > self.callers() || line == 0 {
             return None;
         }
         let command = self.stored(caller).get(line as usize - 1)?;
-        Some(renamed(order_name(caller, line), command))
+        Some(command.renamed(order_name(caller, line)))
     }
 }
 
 /// Lends the law of scripts to a proof: each command is in range, and an order that it places has
 /// the name of its line. It has no effect when it runs.
-pub fn commands_are_named(scripts: &Scripts)
-    ensures { AreNamed scripts.now }
+pub fn commands_are_named<C: ScriptCommand>(scripts: &Scripts<C>)
+    ensures { AreNamedAt C.book_rules (at_line scripts.now) }
 {
     let _ = &scripts.total;
 }

@@ -4,31 +4,29 @@ ghost use Rattle.std.specs.Prelude.{◌≡◌, ◌≤◌, ◌++◌, ◌∷◌, [
 ghost use Rattle.md_orders.specs.Lists.{items_in};
 ghost use Rattle.md_orders.specs.Records.{max_records};
 
-use md_book::Command;
 use std::alloc::{AllocError, Global};
 use std::marker::Model;
 
 /// The commands of one caller, in order, in a segment for each part of the file that was read by
 /// itself. So a part is put behind another without a copy of its commands. Contracts see a list.
 #[derive(Drop)]
-pub struct Segments {
-    earlier: Vec<Vec<Command>>,
-    last: Vec<Command>,
+pub struct Segments<C> {
+    earlier: Vec<Vec<C>>,
+    last: Vec<C>,
 }
 
-impl Model for Segments {
+impl<C> Model for Segments<C> {
     ghost use Rattle.std.specs.Prelude.{List, ◌++◌};
-    ghost use Rattle.md_book.specs.declared.commands.Command.{Command};
     ghost use Rattle.md_orders.specs.Lists.{items_in};
 
-    ghost Value = { List Command };
+    ghost Value = { List C };
 
     ghost view = { λ s. items_in s.earlier.items ++ s.last.items };
 }
 
-impl Segments {
+impl<C: Copy + Drop> Segments<C> {
     /// No commands, and room for so many. `AllocError` if memory runs out.
-    pub(crate) fn with_room(alloc: Global, room: usize) -> Result<Segments, AllocError>
+    pub(crate) fn with_room(alloc: Global, room: usize) -> Result<Segments<C>, AllocError>
         ensures { IfOk result (λ s. s ≡ []) }
     {
         Ok(Segments {
@@ -38,7 +36,7 @@ impl Segments {
     }
 
     /// Adds a command at the end. `AllocError` if memory runs out; then nothing changes.
-    pub(crate) fn push(&mut self, command: Command) -> Result<(), AllocError>
+    pub(crate) fn push(&mut self, command: C) -> Result<(), AllocError>
         ensures ok { OnOk result (self.new ≡ self.old ++ command ∷ []) }
         ensures err { OnErr result (self.new ≡ self.old) }
     {
@@ -59,7 +57,7 @@ impl Segments {
     }
 
     /// The command at an index, if there is one. The call goes over the segments.
-    pub(crate) fn get(&self, index: usize) -> Option<Command>
+    pub(crate) fn get(&self, index: usize) -> Option<C>
         ensures { result ≡ slice_get self.now index }
     {
         let mut rest = index;
@@ -74,7 +72,7 @@ impl Segments {
 
     /// These commands, and behind them others, whose segments are moved here. `AllocError` if
     /// memory runs out.
-    pub(crate) fn joined(self, more: Segments) -> Result<Segments, AllocError>
+    pub(crate) fn joined(self, more: Segments<C>) -> Result<Segments<C>, AllocError>
         ensures { IfOk result (λ both. both ≡ self ++ more) }
     {
         let Segments { mut earlier, last } = self;
@@ -88,7 +86,7 @@ impl Segments {
     }
 
     /// The segments, the last one apart. One after another they have the commands.
-    pub fn segments(&self) -> (&[Vec<Command>], &[Command])
+    pub fn segments(&self) -> (&[Vec<C>], &[C])
         ensures { self.now ≡ items_in result.0.now ++ result.1.now }
     {
         (&self.earlier, &self.last)

@@ -13,7 +13,7 @@ const MAX_CALLER_IN_VERSION_1: u32 = 8;
 
 /// A version of the order file.
 #[derive(Clone, Copy, Debug, PartialEq, Eq)]
-pub(crate) enum Version {
+pub enum Version {
     First,
     Second,
 }
@@ -22,7 +22,7 @@ impl Version {
     ghost use Rattle.md_orders.specs.Version.{places_of, max_caller};
 
     /// How many places a fill or a kill looks at.
-    pub(crate) fn places(self) -> u8
+    pub fn places(self) -> u8
         ensures { result ≡ places_of self }
     {
         match self {
@@ -32,7 +32,7 @@ impl Version {
     }
 
     /// The greatest caller.
-    pub(crate) fn max_caller(self) -> u32
+    pub fn max_caller(self) -> u32
         ensures { result ≡ max_caller self }
     {
         match self {

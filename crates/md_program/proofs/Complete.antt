@@ -4,6 +4,7 @@ use Rattle.std.specs.Io.KnownBytes.{Consumes, IsAtEnd}
 use Rattle.std.proofs.lemmas.Grind.{common_steps}
 use Rattle.md_orders.specs.Records.{order_records, AreFewRecords}
 use Rattle.md_orders.specs.Grammar.{first_bad}
+use Rattle.md_orders.specs.Orders.{order_grammar}
 use Rattle.md_outside.specs.Causes.{Rose}
 use Rattle.md_outside.specs.Moves.{StreamCall}
 use Rattle.md_program_edge.specs.declared.words.Making.{Making}
@@ -42,7 +43,7 @@ good-not-bad gives left faults old new callers bytes told good (inr (inl many)) 
     many.2 (subst (λ bs. AreFewRecords (order_records bs)) (sym (read-all (left old) (left new) bytes many.0 told many.1.told many.1.ended)) good.few)
 good-not-bad gives left faults old new callers bytes told good (inr (inr bad)) =
     let same = read-all (left old) (left new) bytes bad.1.0 told bad.1.1.told bad.1.1.ended in
-    let none : first_bad callers (order_records bad.1.0) ≡ None = subst (λ bs. first_bad callers (order_records bs) ≡ None) (sym same) good.lawful in
+    let none : first_bad order_grammar callers (order_records bad.1.0) ≡ None = subst (λ bs. first_bad order_grammar callers (order_records bs) ≡ None) (sym same) good.lawful in
     let both : None ≡ Some bad.0 = sym none ∙ bad.1.3 in
     cc both
 

@@ -4,6 +4,7 @@ use Rattle.std.specs.Result.{IsErrOf}
 use Rattle.md_outside.specs.Moves.{StreamCall}
 use Rattle.md_orders.specs.Records.{order_records, AreFewRecords}
 use Rattle.md_orders.specs.Grammar.{first_bad}
+use Rattle.md_orders.specs.Orders.{order_grammar}
 use Rattle.md_orders.specs.declared.read.OrderFault.{OrderFault}
 use Rattle.md_orders.specs.declared.read.OrderFault.TheVariants.{TooMany, BadLine, NoMemory}
 use Rattle.md_program_edge.specs.declared.status.Status.{Status}
@@ -16,7 +17,7 @@ module _ {I : Type 0} (gives : StreamCall I) (left : I → Option (List ℕ)) (f
     {A : Type 0} (result : Result A OrderFault) where
   stops-by : (why : OrderFault) → result ≡ Err why → IsRead gives left faults old new bytes
       → (IsErrOf result TooMany → ¬ AreFewRecords (order_records bytes))
-      → ((n : ℕ) → IsErrOf result (BadLine n) → AreFewRecords (order_records bytes) × (first_bad callers (order_records bytes) ≡ Some n))
+      → ((n : ℕ) → IsErrOf result (BadLine n) → AreFewRecords (order_records bytes) × (first_bad order_grammar callers (order_records bytes) ≡ Some n))
       → StopsReplay gives left faults old new callers (order_status why)
   stops-by TooMany is read many bad = (bytes, read, many is)
   stops-by (BadLine n) is read many bad = let (few, first) = bad n is in (bytes, read, few, first)
@@ -25,6 +26,6 @@ module _ {I : Type 0} (gives : StreamCall I) (left : I → Option (List ℕ)) (f
   -- the fault is told as the status, and is why the replay stops
   pub order-stops : (why : OrderFault) (status : Status) → result ≡ Err why → status ≡ order_status why → IsRead gives left faults old new bytes
       → (IsErrOf result TooMany → ¬ AreFewRecords (order_records bytes))
-      → ((n : ℕ) → IsErrOf result (BadLine n) → AreFewRecords (order_records bytes) × (first_bad callers (order_records bytes) ≡ Some n))
+      → ((n : ℕ) → IsErrOf result (BadLine n) → AreFewRecords (order_records bytes) × (first_bad order_grammar callers (order_records bytes) ≡ Some n))
       → StopsReplay gives left faults old new callers status
   order-stops why status is told read many bad = subst (StopsReplay gives left faults old new callers) (sym told) (stops-by why is read many bad)

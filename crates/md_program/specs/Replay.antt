@@ -7,6 +7,7 @@ use Rattle.md_book.specs.Book.{Book}
 use Rattle.md_book.specs.OrderRules.{order_market}
 use Rattle.md_orders.specs.Records.{order_records, AreFewRecords}
 use Rattle.md_orders.specs.Scripts.{AreScripts}
+use Rattle.md_orders.specs.Orders.{order_grammar}
 use Rattle.md_report.specs.Report.{report_text}
 use Rattle.md_orders.specs.Generator.{AreMade}
 use Rattle.md_report.specs.Summary.{summary_text}
@@ -18,7 +19,7 @@ use Rattle.md_program_edge.specs.declared.words.Making.{Making}
 pub record IsReplay (callers : ℕ) (bytes : List ℕ) (fronts : List Front) (text : List ℕ) : Type 0 where
   pub few : AreFewRecords (order_records bytes)
   pub scripts : List (List Command)
-  pub written : AreScripts callers (order_records bytes) scripts
+  pub written : AreScripts order_grammar callers (order_records bytes) scripts
   pub replies : List (List (Option BookReply))
   pub book : Book
   pub played : IsPlayed order_market scripts fronts replies book

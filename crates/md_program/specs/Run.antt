@@ -5,6 +5,7 @@ use Rattle.md_outside.specs.Causes.{Rose}
 use Rattle.md_outside.specs.Moves.{StreamCall}
 use Rattle.md_orders.specs.Records.{order_records, AreFewRecords}
 use Rattle.md_orders.specs.Grammar.{first_bad}
+use Rattle.md_orders.specs.Orders.{order_grammar}
 use Rattle.md_program_edge.specs.declared.status.Status.{Status}
 use Rattle.md_program_edge.specs.declared.status.Status.TheVariants.{Done, Usage, BadLine, ReadFault, WriteFault, NoMemory}
 use Rattle.md_program_edge.specs.declared.status.Status.TheVariants.{TooLong, TooMany}
@@ -18,7 +19,7 @@ use Rattle.md_program.specs.Replay.{IsReplay, IsSummed}
 pub record IsGood (callers : ℕ) (bytes : List ℕ) : Type 0 where
   pub short : length bytes ≤ max_bytes
   pub few : AreFewRecords (order_records bytes)
-  pub lawful : first_bad callers (order_records bytes) ≡ None
+  pub lawful : first_bad order_grammar callers (order_records bytes) ≡ None
 
 -- A run's input, by the number of its callers.
 module _ {I : Type 0} (gives : StreamCall I) (left : I → Option (List ℕ)) (faults : I → ℕ) (old new : I) (callers : ℕ) where
@@ -31,7 +32,7 @@ module _ {I : Type 0} (gives : StreamCall I) (left : I → Option (List ℕ)) (f
   -- why a replay stopped before its report
   abbrev pub StopsReplay : Status → Type 0
   StopsReplay (BadLine n) = (bytes : List ℕ) × IsRead gives left faults old new bytes
-      × AreFewRecords (order_records bytes) × (first_bad callers (order_records bytes) ≡ Some n)
+      × AreFewRecords (order_records bytes) × (first_bad order_grammar callers (order_records bytes) ≡ Some n)
   StopsReplay ReadFault = HasReadFault gives left faults old new
   StopsReplay TooLong = IsOverlong gives left faults old new
   StopsReplay TooMany = (bytes : List ℕ) × IsRead gives left faults old new bytes

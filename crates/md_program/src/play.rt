@@ -13,7 +13,7 @@ ghost use Rattle.md_program_play.specs.declared.playing.TheConstants.{MAX_LANE_N
 ghost use Rattle.md_store.specs.Store.{front_in};
 ghost use Rattle.md_program_edge.specs.Options.{AreInRange};
 
-use md_book::COMMAND_NODES;
+use md_book::{COMMAND_NODES, Command};
 use md_orders::Scripts;
 use md_program_edge::Options;
 use md_program_play::{OpenStore, open_store, play_on_store};
@@ -39,7 +39,7 @@ const LINE_NODES: u32 = 3;
 const LINE_BYTES: u32 = 16;
 
 // How many lines the caller with the most lines has.
-fn longest(scripts: &Scripts) -> u32
+fn longest(scripts: &Scripts<Command>) -> u32
     requires { length scripts.now ≤ 64 }
 {
     let mut most = 0;
@@ -114,7 +114,7 @@ pub fn open_for(alloc: Global, options: &Options, bytes: u32) -> Result<OpenStor
 pub fn play<R, G>(
     rt: &R,
     alloc: Global,
-    scripts: &Scripts,
+    scripts: &Scripts<Command>,
     options: &Options,
     gate: &G,
 ) -> Result<Outcome<StorePass>, AllocError>

@@ -11,6 +11,7 @@ ghost use Rattle.md_program_play.specs.Closing.{IsClosedForReport};
 ghost use Rattle.md_rounds.specs.Replay.{IsPlayed};
 ghost use Rattle.md_store.specs.Store.{IsPassOf, all_lanes, front_in, start_of};
 
+use md_book::Command;
 use md_history::Front;
 use md_orders::Scripts;
 use md_program_play::close_for_report;
@@ -44,7 +45,7 @@ pub fn with_last(mut parts: Vec<Vec<u8>>, last: Vec<u8>) -> Result<Vec<Vec<u8>>,
 pub fn tell_and_close<R: Threads + Sync>(
     rt: &R,
     alloc: Global,
-    scripts: &Scripts,
+    scripts: &Scripts<Command>,
     played: OpenOutcome<Store>,
 ) -> Result<PlayedText, AllocError>
     requires of { IsPassOf played.rounds.engine played.rounds.pass }

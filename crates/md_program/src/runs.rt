@@ -5,6 +5,7 @@ ghost use Rattle.std.specs.Prelude.{IfOk, IfErr, IsErrOf};
 ghost use Rattle.std.specs.Thread.{IsSync};
 ghost use Rattle.md_book.specs.OrderRules.{order_rules};
 ghost use Rattle.md_orders.specs.Grammar.{first_bad};
+ghost use Rattle.md_orders.specs.Orders.{order_grammar};
 ghost use Rattle.md_orders.specs.Records.{order_records, AreFewRecords};
 ghost use Rattle.md_report.specs.Report.{whole_text};
 ghost use Rattle.md_orders.specs.Scripts.{AreScripts};
@@ -21,7 +22,7 @@ ghost use Rattle.md_program.specs.Run.{RefusesWords, ToldAlone};
 use crate::play::{open_for, play};
 use crate::report::{PlayedText, tell_and_close, with_last};
 use crate::status::Run;
-use md_book::MAX_CALLER;
+use md_book::{Command, MAX_CALLER};
 use md_orders::{OrderFault, Scripts, make, read_orders_in_threads};
 use md_outside::{Failed, Sink, Source};
 use md_program_edge::{Making, Options, Status, read_all, read_options, tell, write_parts};
@@ -60,16 +61,16 @@ where
     let count = u32::try_from(bytes.len()).unwrap_or(u32::MAX);
     let (scripts, opened) = thread::join(
         rt,
-        move || -> Result<Scripts, OrderFault>
+        move || -> Result<Scripts<Command>, OrderFault>
             requires sync { IsSync R.row }
             requires range { (1 ≤ callers) × (callers ≤ MAX_CALLER) }
             ensures scripts { IfOk result (λ scripts. AreFewRecords (order_records records.entry.now)
-                × AreScripts callers (order_records records.entry.now) scripts) }
+                × AreScripts order_grammar callers (order_records records.entry.now) scripts) }
             ensures too_many { IsErrOf result OrderFault.TooMany
                 → ¬ AreFewRecords (order_records records.entry.now) }
             ensures bad_line { (n : ℕ) → IsErrOf result (OrderFault.BadLine n)
                 → AreFewRecords (order_records records.entry.now)
-                × (first_bad callers (order_records records.entry.now) ≡ Some n) }
+                × (first_bad order_grammar callers (order_records records.entry.now) ≡ Some n) }
         { read_orders_in_threads(rt, alloc, records, callers) },
         move || -> Result<OpenStore, AllocError>
             requires in_range { AreInRange options.now }

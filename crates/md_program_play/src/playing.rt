@@ -13,7 +13,7 @@ ghost use Rattle.md_many.specs.Played.{IsToldOfEach};
 ghost use Rattle.md_store.specs.Store.{IsPassOf, all_lanes, front_in, start_of};
 ghost use Rattle.md_program_play.specs.Opened.{IsOpenFor};
 
-use md_book::{COMMAND_NODES, LEVELS, MAPS};
+use md_book::{COMMAND_NODES, Command, LEVELS, MAPS};
 use md_history::Contents;
 use md_many::Gate;
 use md_orders::Scripts;
@@ -120,7 +120,7 @@ pub fn play_opened<R, G>(
     rt: &R,
     alloc: Global,
     opened: OpenStore,
-    scripts: &Scripts,
+    scripts: &Scripts<Command>,
     gate: &G,
 ) -> Result<OpenOutcome<Store>, AllocError>
 where
@@ -148,7 +148,7 @@ where
 pub fn play_on_store<R, G>(
     rt: &R,
     alloc: Global,
-    scripts: &Scripts,
+    scripts: &Scripts<Command>,
     nodes: u32,
     tries: u32,
     gate: &G,

@@ -6,6 +6,7 @@ ghost use Rattle.md_report.specs.Report.{lines_text, callers_text_after, replies
 
 use crate::text::make_room;
 use crate::text::packed_lines::{callers_lines, lines};
+use md_book::Command;
 use md_orders::Scripts;
 use md_report_replies::RepliesByCaller;
 use std::alloc::{AllocError, Global};
@@ -74,7 +75,7 @@ fn joined(
 }
 
 // An empty text, with room for the lines of some callers.
-fn room_for(alloc: Global, of: &Scripts, callers: Span) -> Result<Vec<u8>, AllocError>
+fn room_for(alloc: Global, of: &Scripts<Command>, callers: Span) -> Result<Vec<u8>, AllocError>
     requires { callers.before + callers.count < 2 ^ 32 }
     ensures { IfOk result (λ out. out.items ≡ []) }
 {
@@ -143,7 +144,7 @@ fn lines_in_ranges<R: Threads + Sync>(
 // The lines of some callers, in one part.
 fn callers_in_one(
     alloc: Global,
-    of: &Scripts,
+    of: &Scripts<Command>,
     replies: &RepliesByCaller,
     callers: Span,
 ) -> Result<Vec<Vec<u8>>, AllocError>
@@ -161,7 +162,7 @@ fn callers_in_one(
 fn lines_of_callers<R: Threads + Sync>(
     rt: &R,
     alloc: Global,
-    of: &Scripts,
+    of: &Scripts<Command>,
     replies: &RepliesByCaller,
     callers: Span,
     ranges: u32,
@@ -216,7 +217,7 @@ fn lines_of_callers<R: Threads + Sync>(
 pub fn lines_in_threads<R: Threads + Sync>(
     rt: &R,
     alloc: Global,
-    of: &Scripts,
+    of: &Scripts<Command>,
     replies: &RepliesByCaller,
 ) -> Result<Vec<Vec<u8>>, AllocError>
     ensures { IfOk result (λ parts. whole_text parts.items

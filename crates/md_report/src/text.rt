@@ -26,7 +26,7 @@ ghost use Rattle.md_report.specs.Sums.{HaveSameSums};
 use crate::sums::{all_totals, open_at, sum_at};
 use crate::text::line_buffer::{DIGITS, LineBuffer};
 use itoa::{Buffer, Integer};
-use md_book::{BOUGHT, DEPTHS, MAPS, MAX_ACCOUNT, MAX_PARTS, MAX_PRICE, Part, SOLD, Side};
+use md_book::{BOUGHT, Command, DEPTHS, MAPS, MAX_ACCOUNT, MAX_PARTS, MAX_PRICE, Part, SOLD, Side};
 use md_history::Contents;
 use md_orders::Scripts;
 use md_report_replies::{Head, Replies, number_at, part_in};
@@ -228,7 +228,7 @@ pub(crate) fn lines(
 /// Adds the lines of the `count` callers after the first `before`.
 pub(crate) fn callers_lines(
     out: &mut Vec<u8>,
-    of: &Scripts,
+    of: &Scripts<Command>,
     replies: &Replies,
     before: u32,
     count: u32,
@@ -335,7 +335,7 @@ pub(crate) fn after_replies(
 /// `AllocError` if memory runs out.
 pub fn report(
     alloc: Global,
-    of: &Scripts,
+    of: &Scripts<Command>,
     replies: &Replies,
     contents: &Contents,
 ) -> Result<Vec<u8>, AllocError>
@@ -362,7 +362,11 @@ pub fn report(
 ///
 /// It looks up each of the `LEVELS` levels once, and each of the `MAX_ACCOUNT` accounts twice.
 /// `AllocError` if memory runs out.
-pub fn after_lines(alloc: Global, of: &Scripts, contents: &Contents) -> Result<Vec<u8>, AllocError>
+pub fn after_lines(
+    alloc: Global,
+    of: &Scripts<Command>,
+    contents: &Contents,
+) -> Result<Vec<u8>, AllocError>
     requires { MAPS ≤ length contents.now.maps }
     ensures text { IfOk result (λ text. text.items
         ≡ after_replies_text_of contents.now (count_of of.now)) }
@@ -386,7 +390,7 @@ pub fn after_lines(alloc: Global, of: &Scripts, contents: &Contents) -> Result<V
 /// It looks up each of the `LEVELS` levels once. `AllocError` if memory runs out.
 pub fn summary(
     alloc: Global,
-    of: &Scripts,
+    of: &Scripts<Command>,
     replies: &Replies,
     contents: &Contents,
 ) -> Result<Vec<u8>, AllocError>

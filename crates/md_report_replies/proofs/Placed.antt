@@ -16,8 +16,11 @@ use Rattle.md_book.specs.declared.limits.TheConstants.{MAX_PARTS}
 use Rattle.md_book.specs.Book.{padded}
 use Rattle.md_book.specs.Suits.{IsPart, IsTaken, Suits}
 use Rattle.md_book.specs.Commands.{IsCommand, IsPlaces, name_of}
-use Rattle.md_orders.specs.Scripts.{list_of, with_list, with_line, at_line, IsNamed, AreNamed}
-use Rattle.md_orders.specs.Renamed.{renamed, renamed_from}
+use Rattle.md_book.specs.OrderRules.{IsNamed, order_rules}
+use Rattle.md_book.specs.Rules.{AreNamedAt}
+use Rattle.md_orders.specs.Scripts.{list_of, with_list, with_line, at_line}
+use Rattle.md_orders.specs.Orders.{renamed, order_grammar}
+use Rattle.md_orders.specs.Renamed.{renamed_from}
 use Rattle.md_report_replies.specs.Replies.{no_replies, with_reply}
 use Rattle.md_report_replies.specs.Rooms.{room_of, FitsRoom, RoomsState, unset_rooms, unset_rooms_after, sizes_of, sizes_in, replies_of}
 use Rattle.md_orders.proofs.ByCaller.{list_of-at, with_list-at, with_line-at}
@@ -67,7 +70,7 @@ none-suits P o none is = subst (λ q. IsSomeAnd q P) none is
 
 -- a line that has a command has a place, and room for a reply that suits the command
 pub place-of : (callers : List RoomsState) (scripts : List (List Command)) (caller line : ℕ) (r : BookReply)
-    → sizes_in callers ≡ sizes_of scripts → AreNamed scripts
+    → sizes_in callers ≡ sizes_of scripts → AreNamedAt order_rules (at_line scripts)
     → IsSomeAnd (at_line scripts caller line) (λ c. Suits (c, r)) → IsPlaceOf callers caller line r
 place-of callers scripts caller zero r sized named suits = absurd suits
 place-of callers scripts zero (suc l) r sized named suits = absurd suits
@@ -141,12 +144,12 @@ room-renamed name (command.Kill account side price quantity places) = refl
 room-renamed name (command.Depth side price) = refl
 room-renamed name (command.Account account) = refl
 
-rooms-renamed : (caller line : ℕ) (cs : List Command) → map room_of (renamed_from caller line cs) ≡ map room_of cs
+rooms-renamed : (caller line : ℕ) (cs : List Command) → map room_of (renamed_from order_grammar caller line cs) ≡ map room_of cs
 rooms-renamed caller line [] = refl
 rooms-renamed caller line (c ∷ cs) = ap₂ (λ n ns. n ∷ ns) (room-renamed (name_of caller line) c) (rooms-renamed caller (line + 1) cs)
 
-pub unset-renamed : (caller line : ℕ) (cs : List Command) → unset_rooms (renamed_from caller line cs) ≡ unset_rooms cs
-unset-renamed caller line cs = λ i. record { sizes = rooms-renamed caller line cs i; replies = replicate (length-renamed_from caller line cs i) None }
+pub unset-renamed : (caller line : ℕ) (cs : List Command) → unset_rooms (renamed_from order_grammar caller line cs) ≡ unset_rooms cs
+unset-renamed caller line cs = λ i. record { sizes = rooms-renamed caller line cs i; replies = replicate (length-renamed_from order_grammar caller line cs i) None }
 
 -- those of one caller more
 pub unset-more : (scripts : List (List Command)) (before i : ℕ) (rooms new : List RoomsState) (room : RoomsState) → before + i < length scripts → room ≡ unset_rooms (list_of scripts (before + i + 1))

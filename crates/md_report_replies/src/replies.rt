@@ -11,7 +11,7 @@ ghost use Rattle.md_report_replies.specs.Rooms.{unset_rooms, new_reply, reply_in
 use crate::all_rooms::rooms_of_callers;
 use crate::packed::PackedReplies;
 use crate::rooms::{Head, NewReply, ReplyRooms, reply_in};
-use md_book::BookReply;
+use md_book::{BookReply, Command};
 use md_orders::{Scripts, commands_are_named};
 use std::alloc::{AllocError, Global};
 use std::marker::Model;
@@ -24,13 +24,15 @@ use std::snapshot::Snapshot;
 /// fill or a kill 1 and as many as the places that it looks at.
 #[derive(Drop)]
 pub struct Replies {
-    of: Snapshot<Scripts>,
+    of: Snapshot<Scripts<Command>>,
     callers: Vec<ReplyRooms>,
 }
 
 impl Model for Replies {
     ghost use Rattle.std.specs.Prelude.{◌≡◌};
-    ghost use Rattle.md_orders.specs.Scripts.{AreNamed};
+    ghost use Rattle.md_book.specs.OrderRules.{order_rules};
+    ghost use Rattle.md_book.specs.Rules.{AreNamedAt};
+    ghost use Rattle.md_orders.specs.Scripts.{at_line};
     ghost use Rattle.md_report_replies.specs.Replies.{RepliesState};
     ghost use Rattle.md_report_replies.specs.Rooms.{sizes_of, sizes_in, replies_of};
 
@@ -40,11 +42,11 @@ impl Model for Replies {
 
     // Each line's room is that of its command, which is in range.
     ghost invariant = { λ r. (sizes_in r.callers.items ≡ sizes_of r.of.value)
-        × AreNamed r.of.value };
+        × AreNamedAt order_rules (at_line r.of.value) };
 }
 
 // The places of all lines of scripts, from the rooms of each caller, without a reply.
-fn with_rooms(scripts: &Scripts, callers: Vec<ReplyRooms>) -> Replies
+fn with_rooms(scripts: &Scripts<Command>, callers: Vec<ReplyRooms>) -> Replies
     requires { callers.items ≡ map unset_rooms scripts.now }
     ensures { result ≡ record { scripts = scripts.now; replies = no_replies scripts.now } }
 {
@@ -57,7 +59,7 @@ fn with_rooms(scripts: &Scripts, callers: Vec<ReplyRooms>) -> Replies
 
 impl Replies {
     /// The places of all lines of scripts, without a reply. `AllocError` if memory runs out.
-    pub fn empty(alloc: Global, scripts: &Scripts) -> Result<Replies, AllocError>
+    pub fn empty(alloc: Global, scripts: &Scripts<Command>) -> Result<Replies, AllocError>
         ensures { IfOk result (λ r. r
             ≡ record { scripts = scripts.now; replies = no_replies scripts.now }) }
     {

@@ -210,7 +210,7 @@ fn add_sizes(sizes: &mut Vec<u16>, script: &[Command]) -> Result<(), AllocError>
 }
 
 // The sizes of the rooms that a script's lines need.
-fn room_sizes(alloc: Global, script: &Segments) -> Result<Vec<u16>, AllocError>
+fn room_sizes(alloc: Global, script: &Segments<Command>) -> Result<Vec<u16>, AllocError>
     requires { length script.now ≤ max_records }
     ensures sizes { IfOk result (λ sizes. sizes.items ≡ map room_of script.now) }
     ensures small { IfOk result (λ sizes. sum sizes.items ≤ 256 * length script.now) }
@@ -241,7 +241,7 @@ fn starts_of(alloc: Global, sizes: &[u16]) -> Result<(Vec<u32>, u32), AllocError
 
 impl ReplyRooms {
     /// The rooms of a script's lines, with no reply.
-    pub(crate) fn empty(alloc: Global, script: &Segments) -> Result<ReplyRooms, AllocError>
+    pub(crate) fn empty(alloc: Global, script: &Segments<Command>) -> Result<ReplyRooms, AllocError>
         requires { length script.now ≤ max_records }
         ensures { IfOk result (λ r. r ≡ unset_rooms script.now) }
     {

@@ -14,6 +14,7 @@ use crate::kept::KeptReplies;
 use crate::kept_lists::KeptLists;
 use crate::laws::order_laws;
 use crate::order_lines::OrderLines;
+use md_book::Command;
 use md_history::{Contents, Engine, Front};
 use md_many::{Gate, OpenRounds, Play, Rounds, play_open_rounds, play_rounds};
 use md_orders::Scripts;
@@ -59,7 +60,7 @@ pub fn run_all_open<R, E, G>(
     alloc: Global,
     engine: E,
     pass: E::Pass,
-    scripts: &Scripts,
+    scripts: &Scripts<Command>,
     tries: u32,
     gate: &G,
 ) -> Result<OpenOutcome<E>, AllocError>
@@ -104,7 +105,7 @@ pub fn run_all<R, E, G>(
     alloc: Global,
     engine: E,
     pass: E::Pass,
-    scripts: &Scripts,
+    scripts: &Scripts<Command>,
     tries: u32,
     gate: &G,
 ) -> Result<Outcome<E::Pass>, AllocError>

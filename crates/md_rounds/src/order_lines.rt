@@ -15,7 +15,7 @@ use md_orders::Scripts;
 /// The commands of scripts, each a caller's line.
 #[derive(Clone, Copy)]
 pub(crate) struct OrderLines<'a> {
-    pub(crate) scripts: &'a Scripts,
+    pub(crate) scripts: &'a Scripts<Command>,
 }
 
 impl Lines for OrderLines<'_> {

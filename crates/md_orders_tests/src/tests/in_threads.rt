@@ -7,7 +7,7 @@ ghost use Rattle.md_orders.specs.declared.generator.TheConstants.{MAX_MADE_CALLE
 
 use crate::tests::reports::{contents_of, reply_with, reported};
 use crate::tests::shown::{are_bytes, extend, read, same};
-use md_book::{BOUGHT, BookReply, DEPTHS, MAX_PARTS, Part, SOLD, order_name};
+use md_book::{BOUGHT, BookReply, Command, DEPTHS, MAX_PARTS, Part, SOLD, order_name};
 use md_orders::{Scripts, make};
 use md_report::{after_lines, lines_in_threads};
 use md_report_replies::{PackedReplies, RepliesByCaller};
@@ -64,7 +64,7 @@ fn add_list<R: Abort + AllocGlobal>(
 fn append_line(
     rt: &impl Abort,
     packed: &mut PackedReplies,
-    scripts: &Scripts,
+    scripts: &Scripts<Command>,
     caller: u32,
     line: u32,
 ) {
@@ -77,7 +77,7 @@ fn append_line(
 // The replies that `set_all` sets, of a caller's lines from one index to another, packed.
 fn packed_from<R: Abort + AllocGlobal>(
     rt: &R,
-    scripts: &Scripts,
+    scripts: &Scripts<Command>,
     caller: u32,
     (from, to): (u32, u32),
 ) -> PackedReplies {
@@ -92,7 +92,7 @@ fn packed_from<R: Abort + AllocGlobal>(
 fn add_lines<R: Abort + AllocGlobal>(
     rt: &R,
     replies: &mut RepliesByCaller,
-    scripts: &Scripts,
+    scripts: &Scripts<Command>,
     caller: u32,
     range: (u32, u32),
 )
@@ -107,7 +107,7 @@ fn add_lines<R: Abort + AllocGlobal>(
 fn add_pieces<R: Abort + AllocGlobal>(
     rt: &R,
     replies: &mut RepliesByCaller,
-    scripts: &Scripts,
+    scripts: &Scripts<Command>,
     caller: u32,
 )
     requires from_1 { 1 ≤ caller }
@@ -121,7 +121,7 @@ fn add_pieces<R: Abort + AllocGlobal>(
 }
 
 // The replies that `set_all` sets, added in three pieces a caller.
-fn packed_all<R: Abort + AllocGlobal>(rt: &R, scripts: &Scripts) -> RepliesByCaller {
+fn packed_all<R: Abort + AllocGlobal>(rt: &R, scripts: &Scripts<Command>) -> RepliesByCaller {
     let mut replies = RepliesByCaller::empty(rt.alloc(), scripts.callers()).expect(rt, "memory");
     'callers: for before in 0..scripts.callers() {
         add_pieces(rt, &mut replies, scripts, before + 1);
@@ -141,7 +141,7 @@ fn whole<R: Abort + AllocGlobal>(rt: &R, parts: &[Vec<u8>]) -> Vec<u8> {
 // The parts that threads write of replies.
 fn parts_of<R: Threads + Sync + Abort + AllocGlobal>(
     rt: &R,
-    scripts: &Scripts,
+    scripts: &Scripts<Command>,
     replies: &RepliesByCaller,
 ) -> Vec<Vec<u8>> {
     lines_in_threads(rt, rt.alloc(), scripts, replies).expect(rt, "memory")
@@ -150,7 +150,7 @@ fn parts_of<R: Threads + Sync + Abort + AllocGlobal>(
 // The number of parts that threads write of replies, and their text.
 fn in_parts<R: Threads + Sync + Abort + AllocGlobal>(
     rt: &R,
-    scripts: &Scripts,
+    scripts: &Scripts<Command>,
     replies: &RepliesByCaller,
 ) -> (usize, Vec<u8>) {
     let parts = parts_of(rt, scripts, replies);
@@ -188,7 +188,7 @@ pub(super) fn told<R: Threads + Sync + Abort + AllocGlobal>(
 // What follows the lines.
 fn end_of<R: Abort + AllocGlobal>(
     rt: &R,
-    scripts: &Scripts,
+    scripts: &Scripts<Command>,
     values: &[(u32, u64, u64)],
 ) -> Vec<u8> {
     let contents = contents_of(rt, values);
@@ -199,7 +199,7 @@ fn end_of<R: Abort + AllocGlobal>(
 // parts and of what follows the lines.
 fn written<R: Threads + Sync + Abort + AllocGlobal>(
     rt: &R,
-    scripts: &Scripts,
+    scripts: &Scripts<Command>,
     values: &[(u32, u64, u64)],
 ) -> (usize, Vec<u8>) {
     let (parts, mut text) = in_parts(rt, scripts, &packed_all(rt, scripts));
@@ -215,7 +215,7 @@ fn is_written(rt: &impl Abort, found: (usize, &[u8]), want: (usize, &[u8]), call
 // Threads write the report of scripts in so many parts.
 fn is_written_alike<R: Threads + Sync + Abort + AllocGlobal>(
     rt: &R,
-    scripts: &Scripts,
+    scripts: &Scripts<Command>,
     count: usize,
 ) {
     let values = [(DEPTHS, 1_999, 7), (BOUGHT, 5, 3), (SOLD, 9_999, 2)].as_slice();

@@ -44,7 +44,7 @@ impl Sums {
 // turns.
 fn sums_in_turn(
     alloc: Global,
-    scripts: &Scripts,
+    scripts: &Scripts<Command>,
     lines: u32,
     callers: u32,
 ) -> Result<Sums, AllocError>

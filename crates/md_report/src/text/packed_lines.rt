@@ -12,7 +12,7 @@ ghost use Rattle.md_report.specs.declared.text.line_buffer.TheConstants.{SIZE};
 
 use super::line_buffer::LineBuffer;
 use super::{bought_and_sold, named, number_behind, part, taken_and_rest};
-use md_book::MAX_PARTS;
+use md_book::{Command, MAX_PARTS};
 use md_orders::Scripts;
 use md_report_replies::{
     PackedHead, QUANTITIES, RepliesByCaller, number_at, part_at, room_at, size_of,
@@ -125,7 +125,7 @@ pub(crate) fn lines(
 /// Adds the lines of the `count` callers after the first `before`.
 pub(crate) fn callers_lines(
     out: &mut Vec<u8>,
-    of: &Scripts,
+    of: &Scripts<Command>,
     replies: &RepliesByCaller,
     before: u32,
     count: u32,

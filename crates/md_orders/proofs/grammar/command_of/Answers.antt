@@ -1,6 +1,7 @@
 use Rattle.std.proofs.Common.{◌≡◌, ◌∙◌, Some, length, ap, sym}
 use Rattle.csv.specs.Records.{fields_of}
-use Rattle.md_orders.specs.Grammar.{byte_at, command_of}
+use Rattle.md_orders.specs.Grammar.{byte_at}
+use Rattle.md_orders.specs.Orders.{command_of}
 use Rattle.md_orders.proofs.grammar.command_of.Goals as goal
 
 pub returns-in-75-eq6 : goal.returns-in-75-eq6

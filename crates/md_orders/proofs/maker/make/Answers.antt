@@ -1,6 +1,6 @@
 use Rattle.std.proofs.Common.{◌≤◌, ◌+◌, ◌∙◌, length, ap, subst, arith}
 use Rattle.md_book.specs.Commands.{name_of}
-use Rattle.md_orders.specs.Scripts.{IsNamed}
+use Rattle.md_book.specs.OrderRules.{IsNamed}
 use Rattle.md_orders.specs.Maker.{MakerAt, maker_at}
 use Rattle.md_orders.proofs.ByCaller.{count_of-add}
 use Rattle.md_orders.proofs.Noted.{count_of-none}

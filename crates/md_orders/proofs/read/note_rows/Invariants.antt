@@ -5,6 +5,6 @@ use Rattle.md_orders.specs.Noted.{AreNotes}
 use Rattle.md_orders.proofs.read.note_rows.Given as goal
 
 abbrev pub invariant-loop-before : goal.invariant-loop-before
-invariant-loop-before l =
+invariant-loop-before g l =
     (rows : List Row) × ((bytes : List ℕ) → IsReadSoFar bytes l.fn.reader [] → IsReadSoFar bytes l.reader rows)
-    × (l.notes.count ≡ l._before) × AreNotes l.known l.callers rows l.notes
+    × (l.notes.count ≡ l._before) × AreNotes g.C.ScriptCommand.grammar l.known l.callers rows l.notes

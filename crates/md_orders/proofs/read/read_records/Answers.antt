@@ -1,7 +1,7 @@
 use Rattle.md_orders.proofs.read.read_records.Goals as goal
 
 pub returns-in-Ok-true : goal.returns-in-Ok-true
-returns-in-Ok-true c = rw c.in-Ok-true.field-0-test at c.in-Ok-true.ensures
+returns-in-Ok-true g c = rw c.in-Ok-true.field-0-test at c.in-Ok-true.ensures
 
 pub returns-in-Ok-false : goal.returns-in-Ok-false
-returns-in-Ok-false c = rw c.in-Ok-false.field-0-test at c.in-Ok-false.ensures
+returns-in-Ok-false g c = rw c.in-Ok-false.field-0-test at c.in-Ok-false.ensures

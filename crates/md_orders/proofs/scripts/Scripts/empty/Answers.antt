@@ -5,11 +5,11 @@ use Rattle.md_orders.proofs.Renamed.{scripts-none}
 use Rattle.md_orders.proofs.scripts.Scripts.empty.Goals as goal
 
 -- the scripts are empty
-shown : (c : goal.In_ok-scripts) → scripts_from 1 c.in_ok-scripts.scripts.items ≡ replicate c.args.callers []
-shown c = ap (scripts_from 1) c.in_ok-scripts.ensures ∙ scripts-none 1 c.args.callers
+shown : (g : _) (c : goal.In_ok-scripts g) → scripts_from g.C.ScriptCommand.grammar 1 c.in_ok-scripts.scripts.items ≡ replicate c.args.callers []
+shown g c = ap (scripts_from g.C.ScriptCommand.grammar 1) c.in_ok-scripts.ensures ∙ scripts-none g.C.ScriptCommand.grammar 1 c.args.callers
 
 pub invariant_of-result : goal.invariant_of-result
-invariant_of-result c = kept-none c.args.callers _ c.ranges.callers.fits (shown c)
+invariant_of-result g c = kept-none g.C.BookCommand.book_rules c.args.callers _ c.ranges.callers.fits (shown g c)
 
 pub returns : goal.returns
-returns c = shown c
+returns g c = shown g c

@@ -4,7 +4,7 @@ use Rattle.md_orders.specs.Lists.{items_in}
 use Rattle.md_orders.proofs.segments.Segments.len.Goals as goal
 
 pub overflow_add-count : goal.overflow_add-count
-overflow_add-count c =
+overflow_add-count g c =
     let segments = c.deref-segment-items.result.now in
     let last = c.self.inside.last.items in
     let more = length-flat_map-take (λ v. v.items) segments c.loop-segment.segment-index c.segment-item.result (omega arith) in

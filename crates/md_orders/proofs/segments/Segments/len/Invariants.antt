@@ -3,4 +3,4 @@ use Rattle.md_orders.specs.Lists.{items_in}
 use Rattle.md_orders.proofs.segments.Segments.len.Given as goal
 
 abbrev pub invariant-loop-segment : goal.invariant-loop-segment
-invariant-loop-segment l = l.count ≡ length (items_in (take l.segment-index l.segment-items)) + l.initial.count
+invariant-loop-segment g l = l.count ≡ length (items_in (take l.segment-index l.segment-items)) + l.initial.count

@@ -3,7 +3,7 @@ use Rattle.csv.specs.Records.{fields_of}
 use Rattle.md_book.specs.declared.limits.TheConstants.{MAX_SCRIPT_LINE}
 use Rattle.md_orders.specs.Version.{max_caller}
 use Rattle.md_orders.specs.Grammar.{number_at}
-use Rattle.md_orders.proofs.grammar.cancel_of.Goals as goal
+use Rattle.md_orders.proofs.terms.order_at.Goals as goal
 
 pub returns : goal.returns
 returns c =
