@@ -8,7 +8,7 @@ use Rattle.md_book.specs.OrderRules.{order_market}
 use Rattle.md_orders.specs.Records.{order_records, AreFewRecords}
 use Rattle.md_orders.specs.Scripts.{AreScripts}
 use Rattle.md_orders.specs.Orders.{order_grammar}
-use Rattle.md_report.specs.Report.{report_text}
+use Rattle.md_report.specs.Report.{reply_text, report_text}
 use Rattle.md_orders.specs.Generator.{AreMade}
 use Rattle.md_report.specs.Summary.{summary_text}
 use Rattle.md_rounds.specs.Replay.{IsPlayed}
@@ -23,7 +23,7 @@ pub record IsReplay (callers : ℕ) (bytes : List ℕ) (fronts : List Front) (te
   pub replies : List (List (Option BookReply))
   pub book : Book
   pub played : IsPlayed order_market scripts fronts replies book
-  pub report : text ≡ report_text scripts replies book
+  pub report : text ≡ report_text reply_text scripts replies book
 
 -- the scripts were made, and were played, and the text is the summary of the replies and of the book
 pub record IsSummed (callers : ℕ) (making : Making) (fronts : List Front) (text : List ℕ) : Type 0 where

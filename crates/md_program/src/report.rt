@@ -5,7 +5,7 @@ ghost use Rattle.std.specs.Thread.{IsSync};
 ghost use Rattle.md_book.specs.Book.{Book};
 ghost use Rattle.md_book.specs.OrderRules.{order_market};
 ghost use Rattle.md_book.specs.Stands.{StandsFor};
-ghost use Rattle.md_report.specs.Report.{replies_text, report_text, whole_text};
+ghost use Rattle.md_report.specs.Report.{reply_text, replies_text, report_text, whole_text};
 ghost use Rattle.md_many.specs.Closed.{ClosesTo};
 ghost use Rattle.md_program_play.specs.Closing.{IsClosedForReport};
 ghost use Rattle.md_rounds.specs.Replay.{IsPlayed};
@@ -58,7 +58,7 @@ pub fn tell_and_close<R: Threads + Sync>(
     ensures { IfOk result (λ w. (book : Book)
         × IsPlayed order_market scripts.now
         (map front_in w.fronts.items) played.replies book
-        × (whole_text w.parts.items ≡ report_text scripts.now played.replies book)) }
+        × (whole_text w.parts.items ≡ report_text reply_text scripts.now played.replies book)) }
 {
     let OpenOutcome { replies, rounds } = played;
     // The thread that has told the replies frees them, while the other still reads.
@@ -67,7 +67,7 @@ pub fn tell_and_close<R: Threads + Sync>(
         move || -> Result<Vec<Vec<u8>>, AllocError>
             requires sync { IsSync R.row }
             ensures { IfOk result (λ parts. whole_text parts.items
-                ≡ replies_text scripts.entry.now replies) }
+                ≡ replies_text reply_text scripts.entry.now replies) }
         { lines_in_threads(rt, alloc, scripts, &replies) },
         move || -> Result<Rounds<StorePass>, AllocError>
             requires of { IsPassOf rounds.engine rounds.pass }

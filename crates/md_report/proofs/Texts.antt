@@ -6,12 +6,10 @@ use Rattle.std.proofs.lemmas.List.{append-nil}
 use Rattle.md_history.specs.State.{State}
 use Rattle.md_book.specs.declared.commands.Side.{Side}
 use Rattle.md_book.specs.declared.commands.Side.TheVariants.{Buy, Sell}
-use Rattle.md_book.specs.declared.commands.Command.{Command}
-use Rattle.md_book.specs.declared.commands.BookReply.{BookReply}
 use Rattle.md_book.specs.declared.limits.TheConstants.{MAX_ACCOUNT, MAX_PRICE}
 use Rattle.md_book.specs.declared.maps.TheConstants.{SOLD}
 use Rattle.md_book.specs.Book.{Book, level_of, depth, bought, sold}
-use Rattle.md_book.specs.Stands.{StandsFor, unless_0}
+use Rattle.md_book.specs.Stands.{Shows, unless_0}
 use Rattle.md_orders.specs.Scripts.{count_of}
 use Rattle.md_report.specs.Report.{texts_to, texts_after, level_text, account_text, value_at, levels_text, levels_text_of, accounts_text, accounts_text_of}
 use Rattle.md_report.specs.Report.{replies_text, done_text, report_text, report_text_of, after_replies_text_of}
@@ -53,27 +51,27 @@ sum-is n = elim (cases_Bool (n == 0)) [
 ]
 
 -- the depths in the maps are those of the book
-pub levels-stand : (s : State) (b : Book) (side : Side) → StandsFor s b → levels_text_of side s ≡ levels_text side b
-levels-stand s b side stands = texts_to-same MAX_PRICE _ _ (λ price. ap (level_text side price) (ap (λ o. unwrap_or o 0) (stands.shows.depths (level_of side price)) ∙ sum-is (depth b (level_of side price))))
+pub levels-show : (s : State) (b : Book) (side : Side) → Shows s b → levels_text_of side s ≡ levels_text side b
+levels-show s b side shows = texts_to-same MAX_PRICE _ _ (λ price. ap (level_text side price) (ap (λ o. unwrap_or o 0) (shows.depths (level_of side price)) ∙ sum-is (depth b (level_of side price))))
 
 -- the sums in the maps are those of the book
-pub accounts-stand : (s : State) (b : Book) → StandsFor s b → accounts_text_of s ≡ accounts_text b
-accounts-stand s b stands = texts_to-same MAX_ACCOUNT _ _ (λ account.
-    ap (λ n. account_text account n (value_at s SOLD account)) (ap (λ o. unwrap_or o 0) (stands.shows.bought account) ∙ sum-is (bought b account))
-    ∙ ap (account_text account (bought b account)) (ap (λ o. unwrap_or o 0) (stands.shows.sold account) ∙ sum-is (sold b account)))
+pub accounts-show : (s : State) (b : Book) → Shows s b → accounts_text_of s ≡ accounts_text b
+accounts-show s b shows = texts_to-same MAX_ACCOUNT _ _ (λ account.
+    ap (λ n. account_text account n (value_at s SOLD account)) (ap (λ o. unwrap_or o 0) (shows.bought account) ∙ sum-is (bought b account))
+    ∙ ap (account_text account (bought b account)) (ap (λ o. unwrap_or o 0) (shows.sold account) ∙ sum-is (sold b account)))
 
 -- the report from the maps is that of the book
-pub report-stands : (scripts : List (List Command)) (replies : List (List (Option BookReply))) (s : State) (b : Book) → StandsFor s b → report_text_of scripts replies s ≡ report_text scripts replies b
-report-stands scripts replies s b stands =
-    ap (λ t. replies_text scripts replies ++ t ++ levels_text_of Sell s ++ accounts_text_of s ++ done_text (count_of scripts)) (levels-stand s b Buy stands)
-    ∙ ap (λ t. replies_text scripts replies ++ levels_text Buy b ++ t ++ accounts_text_of s ++ done_text (count_of scripts)) (levels-stand s b Sell stands)
-    ∙ ap (λ t. replies_text scripts replies ++ levels_text Buy b ++ levels_text Sell b ++ t ++ done_text (count_of scripts)) (accounts-stand s b stands)
+pub report-shows : {C R : Type 0} (text : R → List ℕ) (scripts : List (List C)) (replies : List (List (Option R))) (s : State) (b : Book) → Shows s b → report_text_of text scripts replies s ≡ report_text text scripts replies b
+report-shows text scripts replies s b shows =
+    ap (λ t. replies_text text scripts replies ++ t ++ levels_text_of Sell s ++ accounts_text_of s ++ done_text (count_of scripts)) (levels-show s b Buy shows)
+    ∙ ap (λ t. replies_text text scripts replies ++ levels_text Buy b ++ t ++ accounts_text_of s ++ done_text (count_of scripts)) (levels-show s b Sell shows)
+    ∙ ap (λ t. replies_text text scripts replies ++ levels_text Buy b ++ levels_text Sell b ++ t ++ done_text (count_of scripts)) (accounts-show s b shows)
 
 -- the replies, and what follows them
-pub report-is : (scripts : List (List Command)) (replies : List (List (Option BookReply))) (s : State) (count : ℕ) (lines out : List ℕ)
-    → lines ≡ replies_text scripts replies → count ≡ count_of scripts → out ≡ lines ++ after_replies_text_of s count → out ≡ report_text_of scripts replies s
-report-is scripts replies s count lines out lines_are counted more =
-    let r = replies_text scripts replies in
+pub report-is : {C R : Type 0} (text : R → List ℕ) (scripts : List (List C)) (replies : List (List (Option R))) (s : State) (count : ℕ) (lines out : List ℕ)
+    → lines ≡ replies_text text scripts replies → count ≡ count_of scripts → out ≡ lines ++ after_replies_text_of s count → out ≡ report_text_of text scripts replies s
+report-is text scripts replies s count lines out lines_are counted more =
+    let r = replies_text text scripts replies in
     let a = levels_text_of Buy s in
     let b = levels_text_of Sell s in
     let c = accounts_text_of s in

@@ -1,4 +1,5 @@
--- The text of a report: each command's reply, the book, and the number of commands. Each line ends with a line feed.
+-- The text of a report: each command's reply, by the text of a reply, then the book, and the number of commands. Each
+-- line ends with a line feed.
 use Rattle.std.specs.Prelude.{ℕ, zero, suc, ◌+◌, ◌/◌, ◌%◌, ◌^◌, ◌==◌, ◌&&◌, if◌then◌else◌, Option, Some, None, List, []}
 use Rattle.std.specs.Prelude.{◌++◌, length, take, codes, decimal, flat_map, unwrap_or, Vec}
 use Rattle.std.specs.FinMap as fin
@@ -7,7 +8,6 @@ use Rattle.md_history.specs.State.{State, map_at}
 use Rattle.md_book.specs.declared.commands.Side.{Side}
 use Rattle.md_book.specs.declared.commands.Side.TheVariants.{Buy, Sell}
 use Rattle.md_book.specs.declared.commands.Part.{Part}
-use Rattle.md_book.specs.declared.commands.Command.{Command}
 use Rattle.md_book.specs.declared.commands.BookReply.{BookReply}
 use Rattle.md_book.specs.declared.commands.BookReply.TheVariants.{Placed, Cancelled, Gone, Killed, Filled, Depth}
 use Rattle.md_book.specs.declared.commands.BookReply.TheVariants.{Account}
@@ -31,7 +31,7 @@ filled_text taken rest parts =
     if taken == 0 then codes "filled 0 rest " ++ decimal rest
     else codes "filled " ++ decimal taken ++ codes " rest " ++ decimal rest ++ codes " from" ++ flat_map part_text parts
 
--- the text of each reply
+-- the text of each reply of the order book
 abbrev pub reply_text : BookReply → List ℕ
 reply_text Placed = codes "placed"
 reply_text (Cancelled left) = codes "cancelled " ++ decimal left
@@ -41,14 +41,14 @@ reply_text (Filled taken rest count parts) = filled_text taken rest (take count 
 reply_text (Depth depth) = codes "depth " ++ decimal depth
 reply_text (Account bought sold) = codes "bought " ++ decimal bought ++ codes " sold " ++ decimal sold
 
--- CALLER:LINE REPLY
-abbrev pub line_text : ℕ → ℕ → BookReply → List ℕ
-line_text caller line r = decimal caller ++ codes ":" ++ decimal line ++ codes " " ++ reply_text r ++ codes "\n"
+-- CALLER:LINE REPLY, by the text of each reply
+abbrev pub line_text : {R : Type 0} → (R → List ℕ) → ℕ → ℕ → R → List ℕ
+line_text text caller line r = decimal caller ++ codes ":" ++ decimal line ++ codes " " ++ text r ++ codes "\n"
 
 -- of a line with no reply there is no text
-abbrev pub answer_text : ℕ → ℕ → Option BookReply → List ℕ
-answer_text caller line None = []
-answer_text caller line (Some r) = line_text caller line r
+abbrev pub answer_text : {R : Type 0} → (R → List ℕ) → ℕ → ℕ → Option R → List ℕ
+answer_text text caller line None = []
+answer_text text caller line (Some r) = line_text text caller line r
 
 -- the texts of 1 to n, one after another
 unfoldable pub texts_to : ℕ → (ℕ → List ℕ) → List ℕ
@@ -60,27 +60,27 @@ abbrev pub texts_after : ℕ → ℕ → (ℕ → List ℕ) → List ℕ
 texts_after before count text = texts_to count (λ n. text (before + n))
 
 -- each caller's lines, in order
-abbrev pub script_text : List (List (Option BookReply)) → ℕ → ℕ → List ℕ
-script_text replies caller lines = texts_to lines (λ line. answer_text caller line (reply_at replies caller line))
+abbrev pub script_text : {R : Type 0} → (R → List ℕ) → List (List (Option R)) → ℕ → ℕ → List ℕ
+script_text text replies caller lines = texts_to lines (λ line. answer_text text caller line (reply_at replies caller line))
 
 -- some of them: so many after the first `before`
-abbrev pub lines_text : List (List (Option BookReply)) → ℕ → ℕ → ℕ → List ℕ
-lines_text replies caller before count =
-    texts_after before count (λ line. answer_text caller line (reply_at replies caller line))
+abbrev pub lines_text : {R : Type 0} → (R → List ℕ) → List (List (Option R)) → ℕ → ℕ → ℕ → List ℕ
+lines_text text replies caller before count =
+    texts_after before count (λ line. answer_text text caller line (reply_at replies caller line))
 
 -- those of the callers 1 to n, in order
-abbrev pub callers_text : List (List Command) → List (List (Option BookReply)) → ℕ → List ℕ
-callers_text scripts replies n =
-    texts_to n (λ caller. script_text replies caller (length (list_of scripts caller)))
+abbrev pub callers_text : {C R : Type 0} → (R → List ℕ) → List (List C) → List (List (Option R)) → ℕ → List ℕ
+callers_text text scripts replies n =
+    texts_to n (λ caller. script_text text replies caller (length (list_of scripts caller)))
 
 -- those of some callers: so many after the first `before`
-abbrev pub callers_text_after : List (List Command) → List (List (Option BookReply)) → ℕ → ℕ → List ℕ
-callers_text_after scripts replies before count =
-    texts_after before count (λ caller. script_text replies caller (length (list_of scripts caller)))
+abbrev pub callers_text_after : {C R : Type 0} → (R → List ℕ) → List (List C) → List (List (Option R)) → ℕ → ℕ → List ℕ
+callers_text_after text scripts replies before count =
+    texts_after before count (λ caller. script_text text replies caller (length (list_of scripts caller)))
 
 -- those of every caller
-abbrev pub replies_text : List (List Command) → List (List (Option BookReply)) → List ℕ
-replies_text scripts replies = callers_text scripts replies (length scripts)
+abbrev pub replies_text : {C R : Type 0} → (R → List ℕ) → List (List C) → List (List (Option R)) → List ℕ
+replies_text text scripts replies = callers_text text scripts replies (length scripts)
 
 -- B or S
 abbrev pub side_text : Side → List ℕ
@@ -113,9 +113,9 @@ abbrev pub done_text : ℕ → List ℕ
 done_text count = codes "done " ++ decimal count ++ codes "\n"
 
 -- replies, buy levels, sell levels, accounts, and the number of commands
-abbrev pub report_text : List (List Command) → List (List (Option BookReply)) → Book → List ℕ
-report_text scripts replies b =
-    replies_text scripts replies ++ levels_text Buy b ++ levels_text Sell b ++ accounts_text b
+abbrev pub report_text : {C R : Type 0} → (R → List ℕ) → List (List C) → List (List (Option R)) → Book → List ℕ
+report_text text scripts replies b =
+    replies_text text scripts replies ++ levels_text Buy b ++ levels_text Sell b ++ accounts_text b
     ++ done_text (count_of scripts)
 
 -- the value of a key in a map of a state, or 0
@@ -131,9 +131,9 @@ accounts_text_of s =
     texts_to MAX_ACCOUNT (λ account. account_text account (value_at s BOUGHT account) (value_at s SOLD account))
 
 -- the same report, from the maps
-abbrev pub report_text_of : List (List Command) → List (List (Option BookReply)) → State → List ℕ
-report_text_of scripts replies s =
-    replies_text scripts replies ++ levels_text_of Buy s ++ levels_text_of Sell s ++ accounts_text_of s
+abbrev pub report_text_of : {C R : Type 0} → (R → List ℕ) → List (List C) → List (List (Option R)) → State → List ℕ
+report_text_of text scripts replies s =
+    replies_text text scripts replies ++ levels_text_of Buy s ++ levels_text_of Sell s ++ accounts_text_of s
     ++ done_text (count_of scripts)
 
 -- what of it follows the replies

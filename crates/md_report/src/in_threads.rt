@@ -6,8 +6,8 @@ ghost use Rattle.md_report.specs.Report.{lines_text, callers_text_after, replies
 
 use crate::text::make_room;
 use crate::text::packed_lines::{callers_lines, lines};
-use md_book::Command;
-use md_orders::Scripts;
+use crate::told::ToldReply;
+use md_orders::{ScriptCommand, Scripts};
 use md_report_replies::RepliesByCaller;
 use std::alloc::{AllocError, Global};
 use std::thread;
@@ -75,7 +75,11 @@ fn joined(
 }
 
 // An empty text, with room for the lines of some callers.
-fn room_for(alloc: Global, of: &Scripts<Command>, callers: Span) -> Result<Vec<u8>, AllocError>
+fn room_for<C: ScriptCommand>(
+    alloc: Global,
+    of: &Scripts<C>,
+    callers: Span,
+) -> Result<Vec<u8>, AllocError>
     requires { callers.before + callers.count < 2 ^ 32 }
     ensures { IfOk result (λ out. out.items ≡ []) }
 {
@@ -89,15 +93,15 @@ fn room_for(alloc: Global, of: &Scripts<Command>, callers: Span) -> Result<Vec<u
 }
 
 // Lines of a caller, in one part.
-fn one_range(
+fn one_range<A: ToldReply>(
     alloc: Global,
-    replies: &RepliesByCaller,
+    replies: &RepliesByCaller<A>,
     caller: u32,
     span: Span,
 ) -> Result<Vec<Vec<u8>>, AllocError>
     requires { span.before + span.count < 2 ^ 32 }
     ensures { IfOk result (λ parts. whole_text parts.items
-        ≡ lines_text replies.now caller span.before span.count) }
+        ≡ lines_text A.text replies.now caller span.before span.count) }
 {
     let mut out = Vec::new(alloc);
     make_room(&mut out, span.count)?;
@@ -107,17 +111,17 @@ fn one_range(
 
 // Lines of a caller, in at most so many ranges, by halves in threads.
 #[cycle(ranges)]
-fn lines_in_ranges<R: Threads + Sync>(
+fn lines_in_ranges<R: Threads + Sync, A: ToldReply>(
     rt: &R,
     alloc: Global,
-    replies: &RepliesByCaller,
+    replies: &RepliesByCaller<A>,
     caller: u32,
     span: Span,
     ranges: u32,
 ) -> Result<Vec<Vec<u8>>, AllocError>
     requires { span.before + span.count < 2 ^ 32 }
     ensures { IfOk result (λ parts. whole_text parts.items
-        ≡ lines_text replies.now caller span.before span.count) }
+        ≡ lines_text A.text replies.now caller span.before span.count) }
 {
     if ranges <= 1 || span.count < MANY_LINES {
         return one_range(alloc, replies, caller, span);
@@ -129,28 +133,31 @@ fn lines_in_ranges<R: Threads + Sync>(
             requires sync { IsSync R.row }
             requires few { low.before + low.count < 2 ^ 32 }
             ensures { IfOk result (λ parts. whole_text parts.items
-                ≡ lines_text replies.entry.now caller low.before low.count) }
+                ≡ lines_text A.text replies.entry.now caller low.before low.count) }
         { lines_in_ranges(rt, alloc, replies, caller, low, ranges / 2) },
         move || -> Result<Vec<Vec<u8>>, AllocError>
             requires sync { IsSync R.row }
             requires few { high.before + high.count < 2 ^ 32 }
             ensures { IfOk result (λ parts. whole_text parts.items
-                ≡ lines_text replies.entry.now caller high.before high.count) }
+                ≡ lines_text A.text replies.entry.now caller high.before high.count) }
         { lines_in_ranges(rt, alloc, replies, caller, high, ranges / 2) },
     );
     joined(earlier, later)
 }
 
 // The lines of some callers, in one part.
-fn callers_in_one(
+fn callers_in_one<C>(
     alloc: Global,
-    of: &Scripts<Command>,
-    replies: &RepliesByCaller,
+    of: &Scripts<C>,
+    replies: &RepliesByCaller<C::Reply>,
     callers: Span,
 ) -> Result<Vec<Vec<u8>>, AllocError>
+where
+    C: ScriptCommand,
+    C::Reply: ToldReply,
     requires { callers.before + callers.count < 2 ^ 32 }
     ensures { IfOk result (λ parts. whole_text parts.items
-        ≡ callers_text_after of.now replies.now callers.before callers.count) }
+        ≡ callers_text_after C.Reply.text of.now replies.now callers.before callers.count) }
 {
     let mut out = room_for(alloc, of, callers)?;
     callers_lines(&mut out, of, replies, callers.before, callers.count)?;
@@ -159,17 +166,21 @@ fn callers_in_one(
 
 // The lines of some callers, in at most so many ranges, by halves in threads.
 #[cycle(halves)]
-fn lines_of_callers<R: Threads + Sync>(
+fn lines_of_callers<R, C>(
     rt: &R,
     alloc: Global,
-    of: &Scripts<Command>,
-    replies: &RepliesByCaller,
+    of: &Scripts<C>,
+    replies: &RepliesByCaller<C::Reply>,
     callers: Span,
     ranges: u32,
 ) -> Result<Vec<Vec<u8>>, AllocError>
+where
+    R: Threads + Sync,
+    C: ScriptCommand,
+    C::Reply: ToldReply,
     requires { callers.before + callers.count < 2 ^ 32 }
     ensures { IfOk result (λ parts. whole_text parts.items
-        ≡ callers_text_after of.now replies.now callers.before callers.count) }
+        ≡ callers_text_after C.Reply.text of.now replies.now callers.before callers.count) }
 {
     if callers.count == 1 {
         let caller = callers.before + 1;
@@ -189,22 +200,22 @@ fn lines_of_callers<R: Threads + Sync>(
             requires sync { IsSync R.row }
             requires few { low.before + low.count < 2 ^ 32 }
             ensures { IfOk result (λ parts. whole_text parts.items
-                ≡ callers_text_after of.entry.now replies.entry.now low.before low.count) }
+                ≡ callers_text_after C.Reply.text of.entry.now replies.entry.now low.before low.count) }
         { lines_of_callers(rt, alloc, of, replies, low, ranges / 2) },
         move || -> Result<Vec<Vec<u8>>, AllocError>
             requires sync { IsSync R.row }
             requires few { high.before + high.count < 2 ^ 32 }
             ensures { IfOk result (λ parts. whole_text parts.items
-                ≡ callers_text_after of.entry.now replies.entry.now high.before high.count) }
+                ≡ callers_text_after C.Reply.text of.entry.now replies.entry.now high.before high.count) }
         { lines_of_callers(rt, alloc, of, replies, high, ranges / 2) },
     );
     joined(first, second)
 }
 
 /// The lines of all callers in a report, as a text in parts: the parts are the text one after
-/// another. A line without a reply has no text. If `Replies` have the same replies, `report`
-/// writes the same lines first. The text that follows them is that of `after_lines`. Threads write
-/// up to eight ranges of the lines side by side, one part each: the lines of some callers, or a
+/// another. A line without a reply has no text. If `Replies` have the same replies of the order
+/// book, `report` writes the same lines first. The text that follows them is that of `after_lines`.
+/// Threads write up to eight ranges of the lines side by side, one part each: the lines of some callers, or a
 /// range of one caller's.
 ///
 /// The call takes the callers by halves in `thread::join`, and these halves again, up to three
@@ -214,14 +225,18 @@ fn lines_of_callers<R: Threads + Sync>(
 /// the lists of parts are joined.
 ///
 /// `AllocError` if memory runs out. Each range takes room for 24 bytes a line at once.
-pub fn lines_in_threads<R: Threads + Sync>(
+pub fn lines_in_threads<R, C>(
     rt: &R,
     alloc: Global,
-    of: &Scripts<Command>,
-    replies: &RepliesByCaller,
+    of: &Scripts<C>,
+    replies: &RepliesByCaller<C::Reply>,
 ) -> Result<Vec<Vec<u8>>, AllocError>
+where
+    R: Threads + Sync,
+    C: ScriptCommand,
+    C::Reply: ToldReply,
     ensures { IfOk result (λ parts. whole_text parts.items
-        ≡ replies_text of.now replies.now) }
+        ≡ replies_text C.Reply.text of.now replies.now) }
 {
     let all = Span {
         before: 0,

@@ -4,6 +4,9 @@
 mod in_threads;
 mod sums;
 mod text;
+mod told;
 
 pub use in_threads::lines_in_threads;
-pub use text::{after_lines, report, summary};
+pub use text::line_buffer::LineBuffer;
+pub use text::{REPLY, after_lines, report, summary};
+pub use told::ToldReply;

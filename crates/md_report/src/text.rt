@@ -1,15 +1,19 @@
 //! The texts of a report and of a summary, to their last byte.
 
-mod line_buffer;
+pub(crate) mod line_buffer;
 pub(crate) mod packed_lines;
+mod packed_reply;
 
+<<<<<<< HEAD
 ghost use Rattle.std.specs.Prelude.{◌≡◌, ◌++◌, ◌≤◌, ◌<◌, ◌+◌, ◌/◌, ◌%◌, ◌*◌, ◌^◌, List, Option};
 ghost use Rattle.std.specs.Prelude.{length, take, slice_index_or, flat_map, codes, decimal, OnOk};
 ghost use Rattle.std.specs.Prelude.{IfOk, IfSome};
+=======
+ghost use Rattle.std.specs.Prelude.{◌≡◌, ◌++◌, ◌≤◌, ◌<◌, ◌+◌, ◌/◌, ◌%◌, ◌*◌, ◌^◌, List, Option, ℕ, length, take, slice_index_or, flat_map, codes, decimal, OnOk, IfOk, IfSome};
+>>>>>>> cc26ec1d (Draft: packed replies and reports of any kind of reply)
 ghost use Rattle.md_history.specs.State.{State};
 ghost use Rattle.md_book.specs.Book.{Book};
-ghost use Rattle.md_book.specs.Stands.{StandsFor};
-ghost use Rattle.md_book.specs.declared.commands.BookReply.{BookReply};
+ghost use Rattle.md_book.specs.Stands.{Shows, StandsFor};
 ghost use Rattle.md_book.specs.declared.limits.TheConstants.{MAX_PARTS};
 ghost use Rattle.md_report_replies.specs.Rooms.{parts_in, reply_in};
 ghost use Rattle.md_report.specs.declared.text.TheConstants.{NAME, PART, PARTS, REPLY};
@@ -28,7 +32,7 @@ use crate::text::line_buffer::{DIGITS, LineBuffer};
 use itoa::{Buffer, Integer};
 use md_book::{BOUGHT, Command, DEPTHS, MAPS, MAX_ACCOUNT, MAX_PARTS, MAX_PRICE, Part, SOLD, Side};
 use md_history::Contents;
-use md_orders::Scripts;
+use md_orders::{ScriptCommand, Scripts};
 use md_report_replies::{Head, Replies, number_at, part_in};
 use std::alloc::{AllocError, Global};
 
@@ -41,8 +45,8 @@ const PART: usize = NAME + DIGITS + 2;
 // How many bytes the parts of a fill can have.
 const PARTS: usize = MAX_PARTS * PART;
 
-// How many bytes a reply can have: the parts of a fill, two numbers and its words.
-const REPLY: usize = PARTS + 2 * DIGITS + 18;
+/// How many bytes a reply can have: the parts of a fill, two numbers and its words.
+pub const REPLY: usize = PARTS + 2 * DIGITS + 18;
 
 // How many bytes a line may well have. Room is made for so many.
 const LIKELY_LINE: usize = 24;
@@ -185,7 +189,7 @@ fn named(text: &mut LineBuffer, caller: u32, line: u32)
 
 // CALLER:LINE REPLY, if there is a reply, in a buffer of its own.
 fn answer(text: &mut LineBuffer, caller: u32, line: u32, head: Head, room: &[u64])
-    ensures { text.new ≡ answer_text caller line (reply_in head room.now) }
+    ensures { text.new ≡ answer_text reply_text caller line (reply_in head room.now) }
 {
     text.clear();
     if matches!(head, Head::Unset) {
@@ -213,7 +217,7 @@ pub(crate) fn lines(
 ) -> Result<(), AllocError>
     requires { before + count < 2 ^ 32 }
     ensures { OnOk result (out.new.items
-        ≡ out.old.items ++ lines_text replies.now.replies caller before count) }
+        ≡ out.old.items ++ lines_text reply_text replies.now.replies caller before count) }
 {
     let mut text = LineBuffer::new();
     for done in 0..count {
@@ -235,7 +239,7 @@ pub(crate) fn callers_lines(
 ) -> Result<(), AllocError>
     requires { before + count < 2 ^ 32 }
     ensures { OnOk result (out.new.items
-        ≡ out.old.items ++ callers_text_after of.now replies.now.replies before count) }
+        ≡ out.old.items ++ callers_text_after reply_text of.now replies.now.replies before count) }
 {
     for earlier in 0..count {
         let caller = before + earlier + 1;
@@ -341,9 +345,9 @@ pub fn report(
 ) -> Result<Vec<u8>, AllocError>
     requires { MAPS ≤ length contents.now.maps }
     ensures text { IfOk result (λ text. text.items
-        ≡ report_text_of of.now replies.now.replies contents.now) }
+        ≡ report_text_of reply_text of.now replies.now.replies contents.now) }
     ensures book { IfOk result (λ text. (book : Book) → StandsFor contents.now book
-        → text.items ≡ report_text of.now replies.now.replies book) }
+        → text.items ≡ report_text reply_text of.now replies.now.replies book) }
 {
     let mut out = Vec::new(alloc);
     make_room(&mut out, of.total())?;
@@ -353,8 +357,8 @@ pub fn report(
 }
 
 /// The text that follows the lines in a report: the book that the contents stand for, and the
-/// number of lines. The lines of all callers and this text are together the text that `report`
-/// returns, whatever the replies are. The contents have at least the `MAPS` maps of a book. If they
+/// number of lines. The lines of all callers and this text are together the text of a report,
+/// whatever the replies and their texts are. The contents have at least the `MAPS` maps of a book. If they
 /// stand for no book, the text has what the maps hold for each level and account.
 ///
 /// Only the maps `DEPTHS`, `BOUGHT` and `SOLD` are looked at: the text is also that of all contents
@@ -362,20 +366,22 @@ pub fn report(
 ///
 /// It looks up each of the `LEVELS` levels once, and each of the `MAX_ACCOUNT` accounts twice.
 /// `AllocError` if memory runs out.
-pub fn after_lines(
+pub fn after_lines<C: ScriptCommand>(
     alloc: Global,
-    of: &Scripts<Command>,
+    of: &Scripts<C>,
     contents: &Contents,
 ) -> Result<Vec<u8>, AllocError>
     requires { MAPS ≤ length contents.now.maps }
     ensures text { IfOk result (λ text. text.items
         ≡ after_replies_text_of contents.now (count_of of.now)) }
-    ensures report { IfOk result (λ text. (replies : List (List (Option BookReply)))
-        (whole : State) → HaveSameSums contents.now whole
-        → replies_text of.now replies ++ text.items ≡ report_text_of of.now replies whole) }
-    ensures book { IfOk result (λ text. (replies : List (List (Option BookReply)))
-        (whole : State) (book : Book) → HaveSameSums contents.now whole → StandsFor whole book
-        → replies_text of.now replies ++ text.items ≡ report_text of.now replies book) }
+    ensures report { IfOk result (λ text. (told : C.Reply → List ℕ)
+        (replies : List (List (Option C.Reply))) (whole : State) → HaveSameSums contents.now whole
+        → replies_text told of.now replies ++ text.items
+        ≡ report_text_of told of.now replies whole) }
+    ensures book { IfOk result (λ text. (told : C.Reply → List ℕ)
+        (replies : List (List (Option C.Reply))) (whole : State) (book : Book)
+        → HaveSameSums contents.now whole → Shows whole book
+        → replies_text told of.now replies ++ text.items ≡ report_text told of.now replies book) }
 {
     let mut text = Vec::new(alloc);
     after_replies(&mut text, contents, of.total())?;

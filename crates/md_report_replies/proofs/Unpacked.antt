@@ -1,16 +1,13 @@
--- Packed replies, and what comes of them again.
+-- Parts that are packed, and what comes of them again.
 use Rattle.std.proofs.Common.{◌≡◌, ◌<◌, ◌≤◌, ◌+◌, ◌-◌, ◌*◌, ◌%◌, ◌^◌, ◌∙◌, ◌++◌, ◌∷◌, refl, sym, ap, arith, zero, suc}
 use Rattle.std.proofs.Common.{ℕ, List, [], All, length, take, drop, get_or, replicate, length-append}
-use Rattle.std.specs.Prelude.{min, sum_by}
-use Rattle.std.proofs.lemmas.List.{get_or_append_left, get_or-append-add, length-take, length-take-le, length-replicate, length-drop, get_or-drop, take-append-le, drop-append-le, drop-drop, drop_more, take_all}
-use Rattle.std.proofs.lemmas.List.Sums.{sum_by-cons}
+use Rattle.std.specs.Prelude.{min}
+use Rattle.std.proofs.lemmas.List.{get_or_append_left, get_or-append-add, length-take, length-take-le, length-replicate, get_or-drop}
 use Rattle.std.proofs.lemmas.List.Elements.{All-head, All-tail}
 use Rattle.md_book.specs.declared.commands.Part.{Part}
-use Rattle.md_book.specs.declared.commands.BookReply.{BookReply}
 use Rattle.md_book.specs.declared.limits.TheConstants.{MAX_PARTS}
 use Rattle.md_book.specs.Book.{padded}
-use Rattle.md_report_replies.specs.declared.packed.PackedHead.{PackedHead}
-use Rattle.md_report_replies.specs.Packed.{IsPackable, no_part, size_of, numbers_of, part_of, parts_of, unpacked, unpacked_all, ArePacked, IsPacked}
+use Rattle.md_report_replies.specs.Packed.{IsPackable, no_part, numbers_of, part_of, parts_of}
 
 -- so many parts are read
 pub length-parts_of : (kept : ℕ) (numbers : List ℕ) → length (parts_of kept numbers) ≡ kept
@@ -109,56 +106,3 @@ length-numbers_of (p ∷ ps) = let rest = length-numbers_of ps in omega arith
 pub numbers_of-push : (ps : List Part) (p : Part) → numbers_of (ps ++ p ∷ []) ≡ numbers_of ps ++ p.name ∷ p.taken ∷ []
 numbers_of-push [] p = refl
 numbers_of-push (q ∷ ps) p = ap (λ ns. q.name ∷ q.taken ∷ ns) (numbers_of-push ps p)
-
--- the replies of two lists, one behind the other
-pub unpacked_all-append : (hs more : List PackedHead) (numbers added : List ℕ) → ArePacked hs numbers
-    → unpacked_all (hs ++ more) (numbers ++ added) ≡ unpacked_all hs numbers ++ unpacked_all more added
-unpacked_all-append [] more [] added packed = refl
-unpacked_all-append [] more (n ∷ ns) added packed = absurd (omega arith)
-unpacked_all-append (h ∷ hs) more numbers added packed =
-    let sum = sum_by-cons size_of h hs in
-    let inside : size_of h ≤ length numbers = omega arith in
-    let left = drop (size_of h) numbers in
-    let size = length-drop (size_of h) numbers in
-    let later : ArePacked hs left = omega arith in
-    ap (λ ns. unpacked h ns ∷ unpacked_all (hs ++ more) (drop (size_of h) (numbers ++ added))) (take-append-le (size_of h) numbers added inside)
-    ∙ ap (λ ns. unpacked h (take (size_of h) numbers) ∷ unpacked_all (hs ++ more) ns) (drop-append-le (size_of h) numbers added inside)
-    ∙ ap (λ rs. unpacked h (take (size_of h) numbers) ∷ rs) (unpacked_all-append hs more left added later)
-
--- one reply more at the end
-all-push : (hs : List PackedHead) (numbers added : List ℕ) (h : PackedHead) (r : BookReply) → ArePacked hs numbers
-    → length added ≡ size_of h → unpacked h added ≡ r
-    → unpacked_all (hs ++ h ∷ []) (numbers ++ added) ≡ unpacked_all hs numbers ++ r ∷ []
-all-push hs numbers added h r packed sized is =
-    let whole : take (size_of h) added ≡ added = take_all (size_of h) added (omega arith) in
-    unpacked_all-append hs (h ∷ []) numbers added packed
-    ∙ ap (λ ns. unpacked_all hs numbers ++ unpacked h ns ∷ []) whole ∙ ap (λ x. unpacked_all hs numbers ++ x ∷ []) is
-
-pub unpacked_all-push : (hs : List PackedHead) (numbers new : List ℕ) (h : PackedHead) (r : BookReply) → ArePacked hs numbers
-    → IsPacked numbers new h r → unpacked_all (hs ++ h ∷ []) new ≡ unpacked_all hs numbers ++ r ∷ []
-unpacked_all-push hs numbers new h r packed is =
-    ap (unpacked_all (hs ++ h ∷ [])) is.new_is ∙ all-push hs numbers is.added h r packed is.sized is.is
-
--- a reply a head
-pub length-unpacked_all : (hs : List PackedHead) (numbers : List ℕ) → length (unpacked_all hs numbers) ≡ length hs
-length-unpacked_all [] numbers = refl
-length-unpacked_all (h ∷ hs) numbers = ap suc (length-unpacked_all hs (drop (size_of h) numbers))
-
--- the numbers of the heads that are left
-pub sum-next : (hs : List PackedHead) (i size : ℕ) (d : PackedHead) → i < length hs → size ≡ size_of (get_or hs i d)
-    → sum_by size_of (drop i hs) ≡ size + sum_by size_of (drop (i + 1) hs)
-sum-next hs i size d inside is =
-    ap (sum_by size_of) (drop_more hs i d inside) ∙ sum_by-cons size_of (get_or hs i d) (drop (i + 1) hs)
-    ∙ ap (λ n. n + sum_by size_of (drop (i + 1) hs)) (sym is)
-
--- the first of the replies that are left
-pub unpacked-next : (hs : List PackedHead) (numbers room : List ℕ) (i start size : ℕ) (r : BookReply) (d : PackedHead)
-    → i < length hs → size ≡ size_of (get_or hs i d) → room ≡ take size (drop start numbers) → r ≡ unpacked (get_or hs i d) room
-    → unpacked_all (drop i hs) (drop start numbers) ≡ r ∷ unpacked_all (drop (i + 1) hs) (drop (start + size) numbers)
-unpacked-next hs numbers room i start size r d inside size_is room_is reply_is =
-    let h = get_or hs i d in
-    let left = drop start numbers in
-    ap (λ xs. unpacked_all xs left) (drop_more hs i d inside)
-    ∙ ap (λ n. unpacked h (take n left) ∷ unpacked_all (drop (i + 1) hs) (drop n left)) (sym size_is)
-    ∙ ap (λ x. x ∷ unpacked_all (drop (i + 1) hs) (drop size left)) (sym (reply_is ∙ ap (unpacked h) room_is))
-    ∙ ap (λ ns. r ∷ unpacked_all (drop (i + 1) hs) ns) (drop-drop size start numbers)

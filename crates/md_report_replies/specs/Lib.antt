@@ -1,3 +1,4 @@
+pub mod Packing
 pub mod Replies
 pub mod Rooms
 pub mod Packed

@@ -1,6 +1,5 @@
--- Replies in a list: for each a head that says which reply it is, and behind it the numbers that it needs.
-use Rattle.std.specs.Prelude.{◌≡◌, ◌≢◌, ℕ, zero, suc, ◌+◌, ◌-◌, ◌*◌, ◌/◌, ◌%◌, ◌^◌, ◌<◌, min, List, [], ◌∷◌, ◌++◌}
-use Rattle.std.specs.Prelude.{length, take, drop, sum_by, slice_index_or}
+-- How the replies of the order book are packed.
+use Rattle.std.specs.Prelude.{◌≢◌, ℕ, zero, suc, ◌+◌, ◌-◌, ◌*◌, ◌/◌, ◌%◌, ◌^◌, ◌<◌, min, List, [], ◌∷◌, drop, slice_index_or}
 use Rattle.md_book.specs.declared.commands.Part.{Part}
 use Rattle.md_book.specs.declared.commands.BookReply.{BookReply}
 use Rattle.md_book.specs.declared.commands.BookReply.TheVariants as reply
@@ -8,6 +7,7 @@ use Rattle.md_book.specs.declared.limits.TheConstants.{MAX_PARTS}
 use Rattle.md_book.specs.Book.{padded}
 use Rattle.md_report_replies.specs.declared.packed.PackedHead.{PackedHead}
 use Rattle.md_report_replies.specs.declared.packed.PackedHead.TheVariants as head
+use Rattle.md_report_replies.specs.Packing.{Packing}
 
 -- how many numbers stand behind a head: behind a fill's one for what was taken and remains, and two a part
 abbrev pub size_of : PackedHead → ℕ
@@ -55,24 +55,12 @@ unpacked (head.Filled count kept) numbers =
 unpacked head.Depth numbers = reply.Depth (slice_index_or numbers 0 0)
 unpacked head.Account numbers = reply.Account (slice_index_or numbers 0 0) (slice_index_or numbers 1 0)
 
--- the replies of heads whose numbers stand one after another
-abbrev pub unpacked_all : List PackedHead → List ℕ → List BookReply
-unpacked_all [] numbers = []
-unpacked_all (h ∷ hs) numbers = unpacked h (take (size_of h) numbers) ∷ unpacked_all hs (drop (size_of h) numbers)
-
--- each number is behind a head
-abbrev pub ArePacked : List PackedHead → List ℕ → Type 0
-ArePacked heads numbers = length numbers ≡ sum_by size_of heads
+-- how the replies of the order book are packed
+abbrev pub reply_packing : Packing PackedHead BookReply
+reply_packing = record { size_of = size_of; unpacked = unpacked }
 
 -- a fill keeps no part that is zero after the last that isn't
 abbrev pub KeepsFew : PackedHead → BookReply → Type 0
 KeepsFew (head.Filled count kept) (reply.Filled taken rest told parts) =
     0 < kept → slice_index_or parts (kept - 1) no_part ≢ no_part
 KeepsFew h r = Unit {0}
-
--- numbers were added behind others, and with the head they are the reply
-pub record IsPacked (old new : List ℕ) (h : PackedHead) (r : BookReply) : Type 0 where
-  pub added : List ℕ
-  pub sized : length added ≡ size_of h
-  pub is : unpacked h added ≡ r
-  pub new_is : new ≡ old ++ added

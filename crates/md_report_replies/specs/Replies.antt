@@ -29,7 +29,7 @@ with_replies replies caller n [] = replies
 with_replies replies caller n (r ∷ rs) = with_replies (with_reply replies caller (n + 1) r) caller (n + 1) rs
 
 -- the replies of each caller's first lines, from a list of them for each caller
-abbrev pub listed : List (List BookReply) → List (List (Option BookReply))
+abbrev pub listed : {R : Type 0} → List (List R) → List (List (Option R))
 listed lists = map (λ list. map Some list) lists
 
 -- each reply suits the command of its line, of a caller's lines after its first n

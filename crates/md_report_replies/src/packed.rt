@@ -1,5 +1,6 @@
-//! Replies in a list, each in as many numbers as it has.
+//! Packing the replies of the order book.
 
+<<<<<<< HEAD
 ghost use Rattle.std.specs.Prelude.{◌≡◌, ◌≢◌, ◌↔◌, ◌==◌, ◌<◌, ◌≤◌, ◌+◌, ◌-◌, ◌*◌, ◌++◌, ◌∷◌, ◌^◌};
 ghost use Rattle.std.specs.Prelude.{ℕ, []};
 ghost use Rattle.std.specs.Prelude.{Some, All, map, min, length, take, drop, slice_index_or};
@@ -11,21 +12,27 @@ ghost use Rattle.md_report_replies.specs.declared.packed.TheConstants.{MAX_NUMBE
 ghost use Rattle.md_report_replies.specs.Packed.{IsPackable, no_part, size_of, numbers_of};
 ghost use Rattle.md_report_replies.specs.Packed.{parts_of, unpacked, unpacked_all, ArePacked};
 ghost use Rattle.md_report_replies.specs.Packed.{IsPacked, KeepsFew};
+=======
+ghost use Rattle.std.specs.Prelude.{◌≡◌, ◌≢◌, ◌↔◌, ◌<◌, ◌≤◌, ◌+◌, ◌-◌, ◌*◌, ◌++◌, ◌^◌};
+ghost use Rattle.std.specs.Prelude.{Some, All, map, min, length, take, drop, slice_index_or, vec_len, vec_capacity, IsTrue};
+ghost use Rattle.md_book.specs.declared.limits.TheConstants.{MAX_PARTS};
+ghost use Rattle.md_book.specs.Book.{padded};
+ghost use Rattle.md_book.specs.Suits.{IsPart};
+ghost use Rattle.md_report_replies.specs.declared.packing.TheConstants.{MAX_NUMBERS};
+ghost use Rattle.md_report_replies.specs.Packed.{IsPackable, no_part, size_of, numbers_of, parts_of, unpacked, reply_packing, KeepsFew};
+ghost use Rattle.md_report_replies.specs.Packing.{unpacked_all, ArePacked, IsPacked};
+>>>>>>> cc26ec1d (Draft: packed replies and reports of any kind of reply)
 ghost use Rattle.md_report_replies.specs.Replies.{with_replies, SuitTheirLines};
 ghost use Rattle.md_report_replies.specs.Rooms.{FitsRoom, part_number, reply_in};
 
+use crate::packing::PackedReply;
 use crate::parts::part_number;
 use crate::replies::Replies;
 use crate::rooms::{Head, NewReply, number_at, room_at};
 use md_book::{BookReply, MAX_PARTS, Part};
-use std::alloc::{AllocError, Global};
-use std::marker::Model;
 
 /// The factor between the quantities that were taken and that remain, in a number.
 pub const QUANTITIES: u64 = 0x1_0000_0000;
-
-// The most numbers that a reply needs: one, and two for each part.
-const MAX_NUMBERS: usize = 2 * MAX_PARTS + 1;
 
 // What is left out at the end of parts.
 const NO_PART: Part = Part { name: 0, taken: 0 };
@@ -43,30 +50,8 @@ pub enum PackedHead {
     Account,
 }
 
-/// Replies in a list, each in as many numbers as it has.
-///
-/// A reply takes 8 bytes, and 8 more for each of its numbers: 1 for a depth, 2 for an account, and
-/// for a fill 1 and 2 more for each part up to the last that isn't zero. Contracts see the list.
-#[derive(Drop)]
-pub struct PackedReplies {
-    heads: Vec<PackedHead>,
-    numbers: Vec<u64>,
-}
-
-impl Model for PackedReplies {
-    ghost use Rattle.std.specs.Prelude.{List};
-    ghost use Rattle.md_book.specs.declared.commands.BookReply.{BookReply};
-    ghost use Rattle.md_report_replies.specs.Packed.{unpacked_all, ArePacked};
-
-    ghost Value = { List BookReply };
-
-    ghost view = { λ r. unpacked_all r.heads.items r.numbers.items };
-
-    ghost invariant = { λ r. ArePacked r.heads.items r.numbers.items };
-}
-
-/// How many numbers stand behind a head.
-pub fn size_of(head: PackedHead) -> usize
+// How many numbers stand behind a head.
+fn size_of(head: PackedHead) -> usize
     ensures { result ≡ size_of head }
 {
     match head {
@@ -112,7 +97,8 @@ fn pack_parts(numbers: &mut Vec<u64>, parts: &[Part])
 // Adds the numbers of a reply, and returns its head. There is room for as many as a reply can need.
 fn pack(numbers: &mut Vec<u64>, reply: &BookReply) -> PackedHead
     requires room { vec_len numbers.old + MAX_NUMBERS ≤ vec_capacity numbers.old }
-    ensures packed { IsPacked numbers.old.items numbers.new.items result reply.now }
+    ensures packed { IsPacked reply_packing
+        numbers.old.items numbers.new.items result reply.now }
     ensures least { KeepsFew result reply.now }
 {
     match reply {
@@ -203,14 +189,30 @@ pub(crate) fn keep_packed(room: &mut [u64], head: PackedHead, numbers: &[u64]) -
     }
 }
 
+<<<<<<< HEAD
 // Sets the replies of a caller's lines after its first `done`, in order.
 fn set_each(replies: &mut Replies, caller: u32, done: u32, heads: &[PackedHead], numbers: &[u64])
     requires packed { ArePacked heads.now numbers.now }
     requires suit { SuitTheirLines replies.old.scripts caller done
         (unpacked_all heads.now numbers.now) }
+=======
+/// Sets the replies of a caller's lines after its first `done`, in order, to those that heads and
+/// their numbers are.
+pub(crate) fn set_each(
+    replies: &mut Replies,
+    caller: u32,
+    done: u32,
+    heads: &[PackedHead],
+    numbers: &[u64],
+)
+    requires packed { ArePacked reply_packing heads.now numbers.now }
+    requires suit { SuitTheirLines replies.old.scripts caller done
+        (unpacked_all reply_packing heads.now numbers.now) }
+>>>>>>> cc26ec1d (Draft: packed replies and reports of any kind of reply)
     requires few { done + length heads.now < 2 ^ 32 }
     ensures { replies.new ≡ record replies.old {
-      replies = with_replies replies.old.replies caller done (unpacked_all heads.now numbers.now);
+      replies = with_replies replies.old.replies caller done
+          (unpacked_all reply_packing heads.now numbers.now);
     } }
 {
     let mut line = done;
@@ -224,17 +226,16 @@ fn set_each(replies: &mut Replies, caller: u32, done: u32, heads: &[PackedHead],
     }
 }
 
-impl PackedReplies {
-    /// An empty list. It takes no memory until something is appended.
-    pub fn new(alloc: Global) -> PackedReplies
-        ensures { result ≡ [] }
-    {
-        PackedReplies {
-            heads: Vec::new(alloc),
-            numbers: Vec::new(alloc),
-        }
+impl PackedReply for BookReply {
+    type Head = PackedHead;
+
+    ghost packing = { reply_packing };
+
+    fn size_of(head: PackedHead) -> usize {
+        size_of(head)
     }
 
+<<<<<<< HEAD
     /// How many replies there are.
     pub fn len(&self) -> usize
         ensures { result ≡ length self.now }
@@ -307,5 +308,9 @@ impl PackedReplies {
         } }
     {
         set_each(replies, caller, done, &self.heads, &self.numbers);
+=======
+    fn pack(&self, numbers: &mut Vec<u64>) -> PackedHead {
+        pack(numbers, self)
+>>>>>>> cc26ec1d (Draft: packed replies and reports of any kind of reply)
     }
 }

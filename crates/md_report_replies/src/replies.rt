@@ -9,7 +9,8 @@ ghost use Rattle.md_report_replies.specs.Replies.{SuitTheirLines};
 ghost use Rattle.md_report_replies.specs.Rooms.{unset_rooms, new_reply, reply_in};
 
 use crate::all_rooms::rooms_of_callers;
-use crate::packed::PackedReplies;
+use crate::packed::set_each;
+use crate::packed_replies::PackedReplies;
 use crate::rooms::{Head, NewReply, ReplyRooms, reply_in};
 use md_book::{BookReply, Command};
 use md_orders::{Scripts, commands_are_named};
@@ -90,17 +91,25 @@ impl Replies {
         self.callers[caller as usize - 1].set(line as usize - 1, reply);
     }
 
+<<<<<<< HEAD
     /// Sets the replies of a caller's lines after its first `done`, in order. Each suits the
     /// command of its line, and the lines are numbered below 2^32. It takes no memory, and a fixed
     /// time for each reply.
     pub fn set_packed(&mut self, caller: u32, done: u32, replies: &PackedReplies)
+=======
+    /// Sets the replies of a caller's lines after its first `done`, in order. Each suits the command
+    /// of its line, and the lines are numbered below 2^32. It takes no memory, and a fixed time for
+    /// each reply.
+    pub fn set_packed(&mut self, caller: u32, done: u32, replies: &PackedReplies<BookReply>)
+>>>>>>> cc26ec1d (Draft: packed replies and reports of any kind of reply)
         requires suit { SuitTheirLines self.old.scripts caller done replies.now }
         requires few { done + length replies.now < 2 ^ 32 }
         ensures { self.new ≡ record self.old {
           replies = with_replies self.old.replies caller done replies.now;
         } }
     {
-        replies.set_in(self, caller, done);
+        let (heads, numbers) = replies.told();
+        set_each(self, caller, done, heads, numbers);
     }
 
     /// The head and the room of a line. They are its reply, if it has one.

@@ -1,11 +1,17 @@
 //! The replies of each caller's first lines, packed.
 
+<<<<<<< HEAD
 ghost use Rattle.std.specs.Prelude.{◌≡◌, ◌≤◌, ◌++◌, [], Some, map, length, replicate, IfOk, OnOk};
 ghost use Rattle.std.specs.Prelude.{OnErr};
 ghost use Rattle.md_report_replies.specs.Packed.{unpacked_all, ArePacked};
+=======
+ghost use Rattle.std.specs.Prelude.{◌≡◌, ◌≤◌, ◌++◌, [], Some, map, length, replicate, IfOk, OnOk, OnErr};
+ghost use Rattle.md_report_replies.specs.Packing.{unpacked_all, ArePacked};
+>>>>>>> cc26ec1d (Draft: packed replies and reports of any kind of reply)
 ghost use Rattle.md_orders.specs.Scripts.{list_of, with_list};
 
-use crate::packed::{PackedHead, PackedReplies};
+use crate::packed_replies::PackedReplies;
+use crate::packing::PackedReply;
 use std::alloc::{AllocError, Global};
 use std::marker::Model;
 
@@ -15,22 +21,24 @@ use std::marker::Model;
 ///
 /// A list takes memory only for the replies that it has, as much as `PackedReplies` takes.
 #[derive(Drop)]
-pub struct RepliesByCaller {
-    callers: Vec<PackedReplies>,
+pub struct RepliesByCaller<R: PackedReply> {
+    callers: Vec<PackedReplies<R>>,
 }
 
-impl Model for RepliesByCaller {
+impl<R: PackedReply> Model for RepliesByCaller<R> {
     ghost use Rattle.std.specs.Prelude.{List, Option};
-    ghost use Rattle.md_book.specs.declared.commands.BookReply.{BookReply};
     ghost use Rattle.md_report_replies.specs.Replies.{listed};
 
-    ghost Value = { List (List (Option BookReply)) };
+    ghost Value = { List (List (Option R)) };
 
     ghost view = { λ r. listed r.callers.items };
 }
 
 // The lists of callers that have no replies.
-fn no_lists(alloc: Global, callers: u32) -> Result<Vec<PackedReplies>, AllocError>
+fn no_lists<R: PackedReply>(
+    alloc: Global,
+    callers: u32,
+) -> Result<Vec<PackedReplies<R>>, AllocError>
     ensures { IfOk result (λ lists. lists.items ≡ replicate callers []) }
 {
     let mut lists = Vec::with_capacity(alloc, callers as usize)?;
@@ -41,10 +49,10 @@ fn no_lists(alloc: Global, callers: u32) -> Result<Vec<PackedReplies>, AllocErro
 }
 
 // Adds replies to those of a caller.
-fn append_to(
-    lists: &mut Vec<PackedReplies>,
+fn append_to<R: PackedReply>(
+    lists: &mut Vec<PackedReplies<R>>,
     caller: u32,
-    more: PackedReplies,
+    more: PackedReplies<R>,
 ) -> Result<(), AllocError>
     requires from_1 { 1 ≤ caller }
     requires there { caller ≤ length lists.old.items }
@@ -56,9 +64,9 @@ fn append_to(
     Ok(())
 }
 
-impl RepliesByCaller {
+impl<R: PackedReply> RepliesByCaller<R> {
     /// No replies, of so many callers. `AllocError` if memory runs out.
-    pub fn empty(alloc: Global, callers: u32) -> Result<RepliesByCaller, AllocError>
+    pub fn empty(alloc: Global, callers: u32) -> Result<RepliesByCaller<R>, AllocError>
         ensures { IfOk result (λ r. r ≡ replicate callers []) }
     {
         Ok(RepliesByCaller {
@@ -67,9 +75,15 @@ impl RepliesByCaller {
     }
 
     /// Adds the replies of a caller's next lines, in order. There is such a caller. Its first
+<<<<<<< HEAD
     /// replies are taken over without a copy, and later ones are copied behind them. `AllocError`
     /// if memory runs out; then nothing changes.
     pub fn add(&mut self, caller: u32, replies: PackedReplies) -> Result<(), AllocError>
+=======
+    /// replies are taken over without a copy, and later ones are copied behind them. `AllocError` if
+    /// memory runs out; then nothing changes.
+    pub fn add(&mut self, caller: u32, replies: PackedReplies<R>) -> Result<(), AllocError>
+>>>>>>> cc26ec1d (Draft: packed replies and reports of any kind of reply)
         requires from_1 { 1 ≤ caller }
         requires there { caller ≤ length self.old }
         ensures ok { OnOk result (self.new
@@ -81,10 +95,10 @@ impl RepliesByCaller {
 
     /// The heads of a caller's replies, and their numbers, which stand one after another. There are
     /// none if there is no such caller.
-    pub fn list(&self, caller: u32) -> (&[PackedHead], &[u64])
-        ensures packed { ArePacked result.0.now result.1.now }
+    pub fn list(&self, caller: u32) -> (&[R::Head], &[u64])
+        ensures packed { ArePacked R.packing result.0.now result.1.now }
         ensures replies { list_of self.now caller
-            ≡ map Some (unpacked_all result.0.now result.1.now) }
+            ≡ map Some (unpacked_all R.packing result.0.now result.1.now) }
     {
         if caller == 0 || caller as usize > self.callers.len() {
             return (&[], &[]);

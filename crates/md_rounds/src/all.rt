@@ -14,7 +14,7 @@ use crate::kept::KeptReplies;
 use crate::kept_lists::KeptLists;
 use crate::laws::order_laws;
 use crate::order_lines::OrderLines;
-use md_book::Command;
+use md_book::{BookReply, Command};
 use md_history::{Contents, Engine, Front};
 use md_many::{Gate, OpenRounds, Play, Rounds, play_open_rounds, play_rounds};
 use md_orders::Scripts;
@@ -36,7 +36,7 @@ pub struct Outcome<P> {
 /// and the rounds, whose engine is still open.
 #[derive(Drop)]
 pub struct OpenOutcome<E: Engine> {
-    pub replies: RepliesByCaller,
+    pub replies: RepliesByCaller<BookReply>,
     pub rounds: OpenRounds<E>,
 }
 

@@ -15,7 +15,7 @@ use std::alloc::AllocError;
 // The packed replies of each caller, as a keeper for rounds.
 #[derive(Drop)]
 pub(crate) struct KeptLists {
-    pub(crate) replies: RepliesByCaller,
+    pub(crate) replies: RepliesByCaller<BookReply>,
 }
 
 impl Keeper<BookReply> for KeptLists {

@@ -12,7 +12,7 @@ use std::alloc::{AllocError, Global};
 // of one batch packs nothing.
 #[derive(Drop)]
 pub(crate) struct TurnReplies {
-    pub(crate) packed: PackedReplies,
+    pub(crate) packed: PackedReplies<BookReply>,
     pub(crate) last: Vec<BookReply>,
 }
 

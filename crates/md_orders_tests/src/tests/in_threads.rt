@@ -16,7 +16,11 @@ use std::process::Abort;
 use std::thread::Threads;
 
 // Adds replies to those of a caller.
-fn add(replies: &mut RepliesByCaller, caller: u32, packed: PackedReplies) -> Result<(), AllocError>
+fn add(
+    replies: &mut RepliesByCaller<BookReply>,
+    caller: u32,
+    packed: PackedReplies<BookReply>,
+) -> Result<(), AllocError>
     requires from_1 { 1 ≤ caller }
     requires there { caller ≤ length replies.old }
     ensures { OnOk result (length replies.new ≡ length replies.old) }
@@ -26,7 +30,7 @@ fn add(replies: &mut RepliesByCaller, caller: u32, packed: PackedReplies) -> Res
 }
 
 // Adds replies to those of a caller, and ends the program if memory runs out.
-fn must_add(rt: &impl Abort, replies: &mut RepliesByCaller, caller: u32, packed: PackedReplies)
+fn must_add(rt: &impl Abort, replies: &mut RepliesByCaller<BookReply>, caller: u32, packed: PackedReplies<BookReply>)
     requires from_1 { 1 ≤ caller }
     requires there { caller ≤ length replies.old }
     ensures { length replies.new ≡ length replies.old }
@@ -35,12 +39,12 @@ fn must_add(rt: &impl Abort, replies: &mut RepliesByCaller, caller: u32, packed:
 }
 
 /// Adds replies at the end of packed ones.
-pub(super) fn append(rt: &impl Abort, packed: &mut PackedReplies, list: &[BookReply]) {
+pub(super) fn append(rt: &impl Abort, packed: &mut PackedReplies<BookReply>, list: &[BookReply]) {
     packed.append(list).expect(rt, "memory");
 }
 
 // Replies, packed.
-fn packed_of<R: Abort + AllocGlobal>(rt: &R, list: &[BookReply]) -> PackedReplies {
+fn packed_of<R: Abort + AllocGlobal>(rt: &R, list: &[BookReply]) -> PackedReplies<BookReply> {
     let mut packed = PackedReplies::new(rt.alloc());
     append(rt, &mut packed, list);
     packed
@@ -49,7 +53,7 @@ fn packed_of<R: Abort + AllocGlobal>(rt: &R, list: &[BookReply]) -> PackedReplie
 // Adds replies to those of a caller, or none.
 fn add_list<R: Abort + AllocGlobal>(
     rt: &R,
-    replies: &mut RepliesByCaller,
+    replies: &mut RepliesByCaller<BookReply>,
     caller: u32,
     list: &[BookReply],
 )
@@ -63,7 +67,7 @@ fn add_list<R: Abort + AllocGlobal>(
 // Adds the reply that `set_all` sets at a line.
 fn append_line(
     rt: &impl Abort,
-    packed: &mut PackedReplies,
+    packed: &mut PackedReplies<BookReply>,
     scripts: &Scripts<Command>,
     caller: u32,
     line: u32,
@@ -80,7 +84,7 @@ fn packed_from<R: Abort + AllocGlobal>(
     scripts: &Scripts<Command>,
     caller: u32,
     (from, to): (u32, u32),
-) -> PackedReplies {
+) -> PackedReplies<BookReply> {
     let mut packed = PackedReplies::new(rt.alloc());
     for before in from..to {
         append_line(rt, &mut packed, scripts, caller, before + 1);
@@ -91,7 +95,7 @@ fn packed_from<R: Abort + AllocGlobal>(
 // Adds the replies that `set_all` sets, of a caller's lines from one index to another.
 fn add_lines<R: Abort + AllocGlobal>(
     rt: &R,
-    replies: &mut RepliesByCaller,
+    replies: &mut RepliesByCaller<BookReply>,
     scripts: &Scripts<Command>,
     caller: u32,
     range: (u32, u32),
@@ -106,7 +110,7 @@ fn add_lines<R: Abort + AllocGlobal>(
 // Adds the replies that `set_all` sets of a caller, in three pieces.
 fn add_pieces<R: Abort + AllocGlobal>(
     rt: &R,
-    replies: &mut RepliesByCaller,
+    replies: &mut RepliesByCaller<BookReply>,
     scripts: &Scripts<Command>,
     caller: u32,
 )
@@ -121,7 +125,10 @@ fn add_pieces<R: Abort + AllocGlobal>(
 }
 
 // The replies that `set_all` sets, added in three pieces a caller.
-fn packed_all<R: Abort + AllocGlobal>(rt: &R, scripts: &Scripts<Command>) -> RepliesByCaller {
+fn packed_all<R: Abort + AllocGlobal>(
+    rt: &R,
+    scripts: &Scripts<Command>,
+) -> RepliesByCaller<BookReply> {
     let mut replies = RepliesByCaller::empty(rt.alloc(), scripts.callers()).expect(rt, "memory");
     'callers: for before in 0..scripts.callers() {
         add_pieces(rt, &mut replies, scripts, before + 1);
@@ -142,7 +149,7 @@ fn whole<R: Abort + AllocGlobal>(rt: &R, parts: &[Vec<u8>]) -> Vec<u8> {
 fn parts_of<R: Threads + Sync + Abort + AllocGlobal>(
     rt: &R,
     scripts: &Scripts<Command>,
-    replies: &RepliesByCaller,
+    replies: &RepliesByCaller<BookReply>,
 ) -> Vec<Vec<u8>> {
     lines_in_threads(rt, rt.alloc(), scripts, replies).expect(rt, "memory")
 }
@@ -151,14 +158,17 @@ fn parts_of<R: Threads + Sync + Abort + AllocGlobal>(
 fn in_parts<R: Threads + Sync + Abort + AllocGlobal>(
     rt: &R,
     scripts: &Scripts<Command>,
-    replies: &RepliesByCaller,
+    replies: &RepliesByCaller<BookReply>,
 ) -> (usize, Vec<u8>) {
     let parts = parts_of(rt, scripts, replies);
     (parts.len(), whole(rt, &parts))
 }
 
 // Replies of one caller.
-fn of_one<R: Abort + AllocGlobal>(rt: &R, packed: PackedReplies) -> RepliesByCaller {
+fn of_one<R: Abort + AllocGlobal>(
+    rt: &R,
+    packed: PackedReplies<BookReply>,
+) -> RepliesByCaller<BookReply> {
     let mut replies = RepliesByCaller::empty(rt.alloc(), 1).expect(rt, "memory");
     must_add(rt, &mut replies, 1, packed);
     replies
@@ -169,7 +179,7 @@ fn lines_of<R: Threads + Sync + Abort + AllocGlobal>(
     rt: &R,
     orders: &[u8],
     callers: u32,
-    replies: &RepliesByCaller,
+    replies: &RepliesByCaller<BookReply>,
 ) -> Vec<u8>
     requires { (1 ≤ callers) × (callers ≤ MAX_CALLER) }
 {
@@ -180,7 +190,7 @@ fn lines_of<R: Threads + Sync + Abort + AllocGlobal>(
 pub(super) fn told<R: Threads + Sync + Abort + AllocGlobal>(
     rt: &R,
     orders: &[u8],
-    packed: PackedReplies,
+    packed: PackedReplies<BookReply>,
 ) -> Vec<u8> {
     lines_of(rt, orders, 1, &of_one(rt, packed))
 }
@@ -268,7 +278,7 @@ fn fill() -> BookReply {
 }
 
 // Adds four lists to those of the second caller.
-fn add_lists<R: Abort + AllocGlobal>(rt: &R, replies: &mut RepliesByCaller)
+fn add_lists<R: Abort + AllocGlobal>(rt: &R, replies: &mut RepliesByCaller<BookReply>)
     requires { 2 ≤ length replies.old }
 {
     add_list(rt, replies, 2, &[]);
@@ -278,7 +288,7 @@ fn add_lists<R: Abort + AllocGlobal>(rt: &R, replies: &mut RepliesByCaller)
 }
 
 // Replies of three callers, of which the second alone has some.
-fn replies_of_the_second<R: Abort + AllocGlobal>(rt: &R) -> RepliesByCaller {
+fn replies_of_the_second<R: Abort + AllocGlobal>(rt: &R) -> RepliesByCaller<BookReply> {
     let mut replies = RepliesByCaller::empty(rt.alloc(), 3).expect(rt, "memory");
     add_lists(rt, &mut replies);
     replies
@@ -293,7 +303,7 @@ fn lines_without_a_reply_have_no_text(rt: HostRuntime) {
 }
 
 // As many looks at a level, each with its number from 0 on as the depth.
-fn depths<R: Abort + AllocGlobal>(rt: &R, count: u32) -> PackedReplies {
+fn depths<R: Abort + AllocGlobal>(rt: &R, count: u32) -> PackedReplies<BookReply> {
     let mut packed = PackedReplies::new(rt.alloc());
     for depth in 0..count {
         append(rt, &mut packed, &[BookReply::Depth(u64::from(depth))]);

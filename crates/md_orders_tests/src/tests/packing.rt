@@ -6,7 +6,7 @@ ghost use Rattle.md_report_replies.specs.Replies.{SuitTheirLines};
 
 use crate::tests::reports::{reply_with, set_lines};
 use crate::tests::shown::{read, same};
-use md_book::Command;
+use md_book::{BookReply, Command};
 use md_orders::Scripts;
 use md_report_replies::{PackedReplies, Replies};
 use std::alloc::{AllocGlobal, Global};
@@ -20,7 +20,7 @@ fn packed_lines(
     caller: u32,
     done: u32,
     count: u8,
-) -> Result<PackedReplies, Fail>
+) -> Result<PackedReplies<BookReply>, Fail>
     requires { done ≤ length (list_of scripts.now caller) }
     ensures suit { IfOk result (SuitTheirLines scripts.now caller done) }
     ensures few { IfOk result (λ packed. done + length packed < 2 ^ 32) }

@@ -15,7 +15,7 @@ pub(crate) const DIGITS: usize = 20;
 /// A buffer for the text of a line. Each call writes before what the buffer has, so that the digits
 /// of a number come out of their divisions at their place. Contracts see the text.
 #[derive(Drop)]
-pub(crate) struct LineBuffer {
+pub struct LineBuffer {
     bytes: [u8; SIZE],
     start: usize,
 }
@@ -56,7 +56,7 @@ impl LineBuffer {
     }
 
     #[inline(always)]
-    pub(crate) fn byte(&mut self, byte: u8)
+    pub fn byte(&mut self, byte: u8)
         requires { 1 + length self.old ≤ SIZE }
         ensures { self.new ≡ byte ∷ self.old }
     {
@@ -65,7 +65,7 @@ impl LineBuffer {
     }
 
     #[inline(always)]
-    pub(crate) fn bytes(&mut self, bytes: &[u8])
+    pub fn bytes(&mut self, bytes: &[u8])
         requires { length bytes.now + length self.old ≤ SIZE }
         ensures { self.new ≡ bytes.now ++ self.old }
     {
@@ -75,7 +75,7 @@ impl LineBuffer {
     }
 
     #[inline(always)]
-    pub(crate) fn number(&mut self, n: u64)
+    pub fn number(&mut self, n: u64)
         requires { DIGITS + length self.old ≤ SIZE }
         ensures text { self.new ≡ decimal n ++ self.old }
         ensures short { length self.new ≤ DIGITS + length self.old }

@@ -1,5 +1,6 @@
 use Rattle.std.proofs.Common.{◌∙◌, ◌++◌, ap, arith}
 use Rattle.std.proofs.lemmas.Result.{IfOk-at_ok}
+use Rattle.md_report.specs.Report.{reply_text}
 use Rattle.md_program.proofs.report.tell_and_close.Goals as goal
 
 -- the store was closed to whole contents, which stand for a book
@@ -19,5 +20,5 @@ returns g c =
       played.0,
       played.2,
       c.in_ok-parts.ensures ∙ ap (λ xs. xs ++ c.in_ok-after_lines.field-0.items) lines
-          ∙ c.in_ok-after_lines.ensures.book c.args.played.replies closed.whole played.0 closed.sums played.1,
+          ∙ c.in_ok-after_lines.ensures.book reply_text c.args.played.replies closed.whole played.0 closed.sums played.1.shows,
     )

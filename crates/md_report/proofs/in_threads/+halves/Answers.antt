@@ -9,8 +9,8 @@ pub returns-then-callers-eq1 : goal.returns-then-callers-eq1
 returns-then-callers-eq1 g t c =
     let caller = c.args.callers.before + 1 in
     IfOk-weaker c.lines_in_ranges.result _ _
-    (λ parts is. texts_after-one (λ caller. script_text c.args.replies.now caller (length (list_of c.args.of.now caller))) c.args.callers.before c.args.callers.count (whole_text parts.items) c.if-callers-eq1.true
-    (is ∙ ap (λ n. lines_text c.args.replies.now caller 0 n) c.len.ensures.count ∙ texts_after-none _ _))
+    (λ parts is. texts_after-one (λ caller. script_text g.C.Reply.ToldReply.text c.args.replies.now caller (length (list_of c.args.of.now caller))) c.args.callers.before c.args.callers.count (whole_text parts.items) c.if-callers-eq1.true
+    (is ∙ ap (λ n. lines_text g.C.Reply.ToldReply.text c.args.replies.now caller 0 n) c.len.ensures.count ∙ texts_after-none _ _))
     c.lines_in_ranges.ensures
 
 pub returns : goal.returns
@@ -18,6 +18,6 @@ returns g t c =
     let low = c.halves.result.0 in
     let high = c.halves.result.1 in
     IfOk-weaker c.joined.result _ _
-    (λ parts is. texts_after-halves (λ caller. script_text c.args.replies.now caller (length (list_of c.args.of.now caller)))
-    c.args.callers.before low.count high.count high.before c.args.callers.count _ _ _ c.halves.ensures.behind (sym c.halves.ensures.whole) (ap (λ b. callers_text_after c.args.of.now c.args.replies.now b low.count) c.halves.ensures.start) refl is)
+    (λ parts is. texts_after-halves (λ caller. script_text g.C.Reply.ToldReply.text c.args.replies.now caller (length (list_of c.args.of.now caller)))
+    c.args.callers.before low.count high.count high.before c.args.callers.count _ _ _ c.halves.ensures.behind (sym c.halves.ensures.whole) (ap (λ b. callers_text_after g.C.Reply.ToldReply.text c.args.of.now c.args.replies.now b low.count) c.halves.ensures.start) refl is)
     (c.joined.ensures _ _ c.join-first.ensures.first c.join-first.ensures.second)

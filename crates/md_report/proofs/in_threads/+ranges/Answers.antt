@@ -10,6 +10,6 @@ returns g t c =
     let low = c.halves.result.0 in
     let high = c.halves.result.1 in
     IfOk-weaker c.joined.result _ _
-    (λ parts is. texts_after-halves (λ line. answer_text c.args.caller line (reply_at c.args.replies.now c.args.caller line))
-    c.args.span.before low.count high.count high.before c.args.span.count _ _ _ c.halves.ensures.behind (sym c.halves.ensures.whole) (ap (λ b. lines_text c.args.replies.now c.args.caller b low.count) c.halves.ensures.start) refl is)
+    (λ parts is. texts_after-halves (λ line. answer_text g.A.ToldReply.text c.args.caller line (reply_at c.args.replies.now c.args.caller line))
+    c.args.span.before low.count high.count high.before c.args.span.count _ _ _ c.halves.ensures.behind (sym c.halves.ensures.whole) (ap (λ b. lines_text g.A.ToldReply.text c.args.replies.now c.args.caller b low.count) c.halves.ensures.start) refl is)
     (c.joined.ensures _ _ c.join-earlier.ensures.first c.join-earlier.ensures.second)

@@ -8,7 +8,7 @@ use Rattle.md_report_replies.specs.Packed.{no_part, parts_of}
 use Rattle.md_report.specs.Report.{part_text}
 use Rattle.md_report_replies.proofs.PartNumbers.{parts-next}
 use Rattle.md_report_replies.proofs.Unpacked.{length-filled}
-use Rattle.md_report.proofs.text.packed_lines.parts.Goals as goal
+use Rattle.md_report.proofs.text.packed_reply.parts.Goals as goal
 
 pub loop-after-init : goal.loop-after-init
 loop-after-init c =

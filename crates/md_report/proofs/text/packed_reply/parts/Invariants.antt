@@ -5,7 +5,7 @@ use Rattle.md_book.specs.Book.{padded}
 use Rattle.md_report.specs.declared.text.TheConstants.{PART}
 use Rattle.md_report_replies.specs.Packed.{parts_of}
 use Rattle.md_report.specs.Report.{part_text}
-use Rattle.md_report.proofs.text.packed_lines.parts.Given as goal
+use Rattle.md_report.proofs.text.packed_reply.parts.Given as goal
 
 abbrev pub invariant-loop-after : goal.invariant-loop-after
 invariant-loop-after l = record {
