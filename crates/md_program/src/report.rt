@@ -3,19 +3,17 @@
 ghost use Rattle.std.specs.Prelude.{◌≡◌, ◌++◌, map, IfOk};
 ghost use Rattle.std.specs.Thread.{IsSync};
 ghost use Rattle.md_book.specs.Book.{Book};
-ghost use Rattle.md_book.specs.OrderRules.{order_market};
-ghost use Rattle.md_book.specs.Stands.{StandsFor};
-ghost use Rattle.md_report.specs.Report.{reply_text, replies_text, report_text, whole_text};
+ghost use Rattle.md_book.specs.Rules.{market_of};
+ghost use Rattle.md_report.specs.Report.{replies_text, report_text, whole_text};
 ghost use Rattle.md_many.specs.Closed.{ClosesTo};
 ghost use Rattle.md_program_play.specs.Closing.{IsClosedForReport};
 ghost use Rattle.md_rounds.specs.Replay.{IsPlayed};
 ghost use Rattle.md_store.specs.Store.{IsPassOf, all_lanes, front_in, start_of};
 
-use md_book::Command;
 use md_history::Front;
-use md_orders::Scripts;
+use md_orders::{ScriptCommand, Scripts};
 use md_program_play::close_for_report;
-use md_report::{after_lines, lines_in_threads};
+use md_report::{ToldReply, after_lines, lines_in_threads};
 use md_rounds::{OpenOutcome, Rounds};
 use md_store::{Store, StorePass};
 use std::alloc::{AllocError, Global};
@@ -42,24 +40,29 @@ pub fn with_last(mut parts: Vec<Vec<u8>>, last: Vec<u8>) -> Result<Vec<Vec<u8>>,
 ///
 /// Up to nine threads work side by side: eight write lines (`lines_in_threads` of md_report), and one
 /// reads the sums off (`close_for_report` of md_program_play). `AllocError` if memory runs out.
-pub fn tell_and_close<R: Threads + Sync>(
+pub fn tell_and_close<C, R>(
     rt: &R,
     alloc: Global,
-    scripts: &Scripts<Command>,
-    played: OpenOutcome<Store>,
+    scripts: &Scripts<C>,
+    played: OpenOutcome<Store, C::Reply>,
 ) -> Result<PlayedText, AllocError>
+where
+    C: ScriptCommand,
+    C::Reply: ToldReply,
+    R: Threads + Sync,
     requires of { IsPassOf played.rounds.engine played.rounds.pass }
     requires all { (front_in played.rounds.pass).lanes
         ≡ all_lanes played.rounds.engine.origin.shape }
     requires played { ClosesTo (start_of played.rounds.engine)
         (map front_in played.rounds.fronts.items) (front_in played.rounds.pass)
-        (λ fronts contents. (book : Book) × StandsFor contents book
-        × IsPlayed order_market scripts.now fronts played.replies book) }
+        (λ fronts contents. (book : Book) × C.book_rules.stands contents book
+        × IsPlayed (market_of C.Body C.book_rules) scripts.now fronts played.replies book) }
     ensures { IfOk result (λ w. (book : Book)
-        × IsPlayed order_market scripts.now
+        × IsPlayed (market_of C.Body C.book_rules) scripts.now
         (map front_in w.fronts.items) played.replies book
-        × (whole_text w.parts.items ≡ report_text reply_text scripts.now played.replies book)) }
+        × (whole_text w.parts.items ≡ report_text C.Reply.text scripts.now played.replies book)) }
 {
+    C::rules_hold();
     let OpenOutcome { replies, rounds } = played;
     // The thread that has told the replies frees them, while the other still reads.
     let (lines, closed) = thread::join(
@@ -67,7 +70,7 @@ pub fn tell_and_close<R: Threads + Sync>(
         move || -> Result<Vec<Vec<u8>>, AllocError>
             requires sync { IsSync R.row }
             ensures { IfOk result (λ parts. whole_text parts.items
-                ≡ replies_text reply_text scripts.entry.now replies) }
+                ≡ replies_text C.Reply.text scripts.entry.now replies) }
         { lines_in_threads(rt, alloc, scripts, &replies) },
         move || -> Result<Rounds<StorePass>, AllocError>
             requires of { IsPassOf rounds.engine rounds.pass }

@@ -5,6 +5,7 @@ ghost use Rattle.md_words.specs.declared.limits.TheConstants.{MANY_BUCKETS};
 ghost use Rattle.md_words.specs.Layout.{HasNumbers};
 ghost use Rattle.md_book.specs.Book.{Book};
 ghost use Rattle.md_book.specs.OrderRules.{order_market, order_rules};
+ghost use Rattle.md_book.specs.Rules.{market_of};
 ghost use Rattle.md_book.specs.Stands.{StandsFor};
 ghost use Rattle.md_rounds.specs.OrderLines.{line_count_of};
 ghost use Rattle.md_rounds.specs.Replay.{IsPlayed};
@@ -16,7 +17,8 @@ ghost use Rattle.md_program_play.specs.Opened.{IsOpenFor};
 use md_book::{COMMAND_NODES, Command, LEVELS, MAPS};
 use md_history::Contents;
 use md_many::Gate;
-use md_orders::Scripts;
+use md_orders::{ScriptCommand, Scripts};
+use md_report_replies::PackedReply;
 use md_rounds::{OpenOutcome, Outcome, run_all, run_all_open};
 use md_store::{Store, StorePass};
 use md_words::Shape;
@@ -116,24 +118,26 @@ pub fn open_store(
 /// `OpenRounds::close` of md_many, whose contents stand for the book, or by `close_for_report`.
 ///
 /// `AllocError` if memory runs out.
-pub fn play_opened<R, G>(
+pub fn play_opened<C, R, G>(
     rt: &R,
     alloc: Global,
     opened: OpenStore,
-    scripts: &Scripts<Command>,
+    scripts: &Scripts<C>,
     gate: &G,
-) -> Result<OpenOutcome<Store>, AllocError>
+) -> Result<OpenOutcome<Store, C::Reply>, AllocError>
 where
+    C: ScriptCommand,
+    C::Reply: PackedReply,
     R: Threads + Sync,
     G: Gate + Sync,
-    requires open_for { IsOpenFor order_rules (length scripts.now) opened.store opened.pass }
+    requires open_for { IsOpenFor C.book_rules (length scripts.now) opened.store opened.pass }
     ensures of { IfOk result (λ o. IsPassOf o.rounds.engine o.rounds.pass) }
     ensures all { IfOk result (λ o. (front_in o.rounds.pass).lanes
         ≡ all_lanes o.rounds.engine.origin.shape) }
     ensures played { IfOk result (λ o. ClosesTo (start_of o.rounds.engine)
         (map front_in o.rounds.fronts.items) (front_in o.rounds.pass) (λ fronts contents.
-        (book : Book) × StandsFor contents book
-        × IsPlayed order_market scripts.now fronts o.replies book)) }
+        (book : Book) × C.book_rules.stands contents book
+        × IsPlayed (market_of C.Body C.book_rules) scripts.now fronts o.replies book)) }
     ensures gate { OnOk result (IsToldOfEach (line_count_of scripts.now) (G.after_called gate.now)) }
 {
     let OpenStore { store, pass, tries } = opened;

@@ -7,7 +7,7 @@ use Rattle.md_report_replies.specs.Replies.{reply_at}
 use Rattle.md_rounds.specs.declared.turn_replies.TurnReplies.{TurnReplies}
 
 -- the replies of a turn: those that are packed, and those of the last batch
-abbrev pub all_of : TurnReplies → List BookReply
+abbrev pub all_of : {R : Type 0} → TurnReplies R → List R
 all_of list = list.packed ++ list.last.items
 
 -- a caller's first lines have these replies

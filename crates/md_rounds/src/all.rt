@@ -3,6 +3,7 @@
 ghost use Rattle.std.specs.Prelude.{map, IfOk, OnOk};
 ghost use Rattle.md_book.specs.Book.{Book};
 ghost use Rattle.md_book.specs.OrderRules.{order_market, order_rules};
+ghost use Rattle.md_book.specs.Rules.{market_of};
 ghost use Rattle.md_book.specs.Stands.{StandsFor};
 ghost use Rattle.md_many.specs.Closed.{ClosesTo, HoldsAllLanes};
 ghost use Rattle.md_many.specs.Played.{IsToldOfEach};
@@ -12,13 +13,13 @@ ghost use Rattle.md_rounds.specs.Replay.{IsPlayed};
 
 use crate::kept::KeptReplies;
 use crate::kept_lists::KeptLists;
-use crate::laws::order_laws;
+use crate::laws::line_laws;
 use crate::order_lines::OrderLines;
-use md_book::{BookReply, Command};
+use md_book::Command;
 use md_history::{Contents, Engine, Front};
 use md_many::{Gate, OpenRounds, Play, Rounds, play_open_rounds, play_rounds};
-use md_orders::Scripts;
-use md_report_replies::{Replies, RepliesByCaller};
+use md_orders::{ScriptCommand, Scripts};
+use md_report_replies::{PackedReply, Replies, RepliesByCaller};
 use std::alloc::{AllocError, Global};
 use std::thread::Threads;
 
@@ -35,17 +36,17 @@ pub struct Outcome<P> {
 /// What playing all scripts leaves before the engine is closed: the replies of the lines, packed,
 /// and the rounds, whose engine is still open.
 #[derive(Drop)]
-pub struct OpenOutcome<E: Engine> {
-    pub replies: RepliesByCaller<BookReply>,
+pub struct OpenOutcome<E: Engine, A: PackedReply> {
+    pub replies: RepliesByCaller<A>,
     pub rounds: OpenRounds<E>,
 }
 
 /// Plays the scripts of all callers over an engine without orders, in rounds. `OpenRounds::close` of
 /// md_many then closes the engine; the replies can be told meanwhile. The pass is fresh, and holds
 /// all lanes, one for each caller. An attempt of the engine may read and write as many words as a
-/// command does, and a lane has as many nodes as a command takes (`COMMAND_READS`, `COMMAND_WRITES`
-/// and `COMMAND_NODES` of md_book), and at least one attempt. A renewal has room for contents of
-/// 2,024,000 nodes, which are enough for a book of 1,000,000 orders.
+/// command does, and a lane has as many nodes as a command takes (for the order book `COMMAND_READS`,
+/// `COMMAND_WRITES` and `COMMAND_NODES` of md_book), and at least one attempt. A renewal has room for
+/// the nodes of a book of 1,000,000 orders (2,024,000 for the order book).
 ///
 /// `tries` is the most attempts that a caller makes in its turn of a round: any number.
 /// `play_open_rounds` of md_many says what a round is, and when the engine is renewed. Each caller's
@@ -55,28 +56,30 @@ pub struct OpenOutcome<E: Engine> {
 ///
 /// `AllocError` if memory runs out, here or in an attempt of the engine. Then the engine has ended,
 /// and its contents are lost.
-pub fn run_all_open<R, E, G>(
+pub fn run_all_open<C, R, E, G>(
     rt: &R,
     alloc: Global,
     engine: E,
     pass: E::Pass,
-    scripts: &Scripts<Command>,
+    scripts: &Scripts<C>,
     tries: u32,
     gate: &G,
-) -> Result<OpenOutcome<E>, AllocError>
+) -> Result<OpenOutcome<E, C::Reply>, AllocError>
 where
+    C: ScriptCommand,
+    C::Reply: PackedReply,
     R: Threads + Sync,
     E: Engine,
     G: Gate + Sync,
-    requires { CanPlayScripts E.Engine order_rules scripts.now engine pass }
+    requires { CanPlayScripts E.Engine C.book_rules scripts.now engine pass }
     ensures pass { IfOk result (λ o. HoldsAllLanes E.Engine o.rounds.engine o.rounds.pass) }
     ensures played { IfOk result (λ o. ClosesTo (E.start o.rounds.engine)
         (map E.front o.rounds.fronts.items) (E.front o.rounds.pass) (λ fronts contents.
-        (book : Book) × StandsFor contents book
-        × IsPlayed order_market scripts.now fronts o.replies book)) }
+        (book : Book) × C.book_rules.stands contents book
+        × IsPlayed (market_of C.Body C.book_rules) scripts.now fronts o.replies book)) }
     ensures gate { OnOk result (IsToldOfEach (line_count_of scripts.now) (G.after_called gate.now)) }
 {
-    order_laws(scripts);
+    line_laws(scripts);
     let lines = OrderLines { scripts };
     let replies = RepliesByCaller::empty(alloc, scripts.callers())?;
     let mut keeper = KeptLists { replies };
@@ -119,7 +122,7 @@ where
         (map E.front o.fronts.items) o.replies.replies book) }
     ensures gate { OnOk result (IsToldOfEach (line_count_of scripts.now) (G.after_called gate.now)) }
 {
-    order_laws(scripts);
+    line_laws(scripts);
     let lines = OrderLines { scripts };
     let replies = Replies::empty(alloc, scripts)?;
     let mut keeper = KeptReplies { replies };

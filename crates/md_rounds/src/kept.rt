@@ -32,7 +32,7 @@ pub(crate) fn keep(replies: &mut Replies, caller: u32, done: u32, batch: &[BookR
 }
 
 // Puts the replies of a list into their places, as `keep` those of a batch.
-fn keep_list(replies: &mut Replies, caller: u32, done: u32, list: &TurnReplies)
+fn keep_list(replies: &mut Replies, caller: u32, done: u32, list: &TurnReplies<BookReply>)
     requires suit { SuitTheirLines replies.old.scripts caller done (all_of list.now) }
     requires few { done + length (all_of list.now) < 2 ^ 32 }
     ensures { replies.new ≡ record replies.old {
@@ -51,14 +51,19 @@ pub(crate) struct KeptReplies {
 }
 
 impl Keeper<BookReply> for KeptReplies {
-    type List = TurnReplies;
+    type List = TurnReplies<BookReply>;
 
     ghost can_keep = { λ k caller line r.
         IsSomeAnd (at_line k.replies.scripts caller line) (λ c. Suits (c, r)) };
 
     ghost keeps = { λ k caller rs. HasReplies k.replies.scripts k.replies.replies caller rs };
 
-    fn keep(&mut self, caller: u32, done: u32, replies: TurnReplies) -> Result<(), AllocError>
+    fn keep(
+        &mut self,
+        caller: u32,
+        done: u32,
+        replies: TurnReplies<BookReply>,
+    ) -> Result<(), AllocError>
         requires suit { many.AllSuit (λ line r.
             IsSomeAnd (at_line self.old.replies.scripts caller line) (λ c. Suits (c, r)))
             done (all_of replies) }

@@ -2,24 +2,22 @@
 
 ghost use Rattle.std.specs.Prelude.{length};
 ghost use Rattle.std.specs.Option.{IsSomeAnd};
-ghost use Rattle.md_book.specs.OrderRules.{order_rules};
 ghost use Rattle.md_book.specs.Rules.{without_orders};
 ghost use Rattle.md_orders.specs.Scripts.{at_line};
 ghost use Rattle.md_rounds.specs.OrderLines.{line_count_of, has-line, no-lines};
 ghost use Rattle.md_rounds.specs.Traded.{HasTraded};
 
-use md_book::Command;
 use md_many::{LawfulLines, Lines};
-use md_orders::Scripts;
+use md_orders::{ScriptCommand, Scripts};
 
 /// The commands of scripts, each a caller's line.
 #[derive(Clone, Copy)]
-pub(crate) struct OrderLines<'a> {
-    pub(crate) scripts: &'a Scripts<Command>,
+pub(crate) struct OrderLines<'a, C: ScriptCommand> {
+    pub(crate) scripts: &'a Scripts<C>,
 }
 
-impl Lines for OrderLines<'_> {
-    type B = Command;
+impl<C: ScriptCommand> Lines for OrderLines<'_, C> {
+    type B = C;
 
     ghost caller_count = { λ l. length l.scripts.now };
 
@@ -35,7 +33,7 @@ impl Lines for OrderLines<'_> {
         self.scripts.len(caller)
     }
 
-    fn body(&self, caller: u32, line: u32) -> Option<Command> {
+    fn body(&self, caller: u32, line: u32) -> Option<C> {
         self.scripts.command(caller, line)
     }
 
@@ -44,15 +42,15 @@ impl Lines for OrderLines<'_> {
     ghost has_caller = { λ l caller other. no-lines l.scripts.now caller other };
 }
 
-impl LawfulLines for OrderLines<'_> {
-    ghost opening = { λ l. without_orders order_rules };
+impl<C: ScriptCommand> LawfulLines for OrderLines<'_, C> {
+    ghost opening = { λ l. without_orders C.book_rules };
 
-    ghost good = { λ l s tags. HasTraded order_rules l.scripts.now s tags };
+    ghost good = { λ l s tags. HasTraded C.book_rules l.scripts.now s tags };
 
     ghost suits = { λ l caller line r.
-        IsSomeAnd (at_line l.scripts.now caller line) (λ c. order_rules.suits (c, r)) };
+        IsSomeAnd (at_line l.scripts.now caller line) (λ c. C.book_rules.suits (c, r)) };
 
-    ghost cost = { λ l. order_rules.bounds };
+    ghost cost = { λ l. C.book_rules.bounds };
 
-    ghost most = { λ l. order_rules.most };
+    ghost most = { λ l. C.book_rules.most };
 }

@@ -1,4 +1,4 @@
 use Rattle.md_rounds.proofs.order_lines.OrderLinesLines.body.Goals as goal
 
 pub returns : goal.returns
-returns c = assumption
+returns g c = assumption

@@ -4,20 +4,20 @@ use Rattle.md_orders.proofs.ByCaller.{list_of-with_list-same}
 use Rattle.md_orders.specs.Scripts.{list_of}
 use Rattle.md_rounds.proofs.Listing.{some-suits}
 use Rattle.std.proofs.lemmas.Grind.{common_steps}
-use Rattle.md_rounds.proofs.kept_lists.KeptListsKeeperBookReply.keep.Goals as goal
+use Rattle.md_rounds.proofs.kept_lists.KeptListsKeeper.keep.Goals as goal
 
 pub add-requires-clause-from_1 : goal.add-requires-clause-from_1
-add-requires-clause-from_1 c =
+add-requires-clause-from_1 g c =
     (some-suits _ c.args.done c.args.replies.packed c.args.replies.last.items _ _ c.in_ok-append.ensures.ok
     c.deref.ensures.value (sym c.is_empty.ensures ∙ c.if-is_empty.false) c.requires.suit).0
 
 pub add-requires-clause-there : goal.add-requires-clause-there
-add-requires-clause-there c =
+add-requires-clause-there g c =
     (some-suits _ c.args.done c.args.replies.packed c.args.replies.last.items _ _ c.in_ok-append.ensures.ok
     c.deref.ensures.value (sym c.is_empty.ensures ∙ c.if-is_empty.false) c.requires.suit).1
 
 pub returns-clause-kept : goal.returns-clause-kept
-returns-clause-kept c = λ rs has at.
+returns-clause-kept g c = λ rs has at.
     let old = c.args.self.now.replies in
     let caller = c.args.caller in
     let packed = c.args.replies.packed in
@@ -29,7 +29,7 @@ returns-clause-kept c = λ rs has at.
     ∙ ap (λ xs. map Some (rs ++ xs)) (c.in_ok-append.ensures.ok ∙ ap (λ xs. packed ++ xs) c.deref.ensures.value)
 
 pub returns-clause-others : goal.returns-clause-others
-returns-clause-others c = search rules depth 1
+returns-clause-others g c = search rules depth 1
 
 pub returns-then-is_empty-clause-kept : goal.returns-then-is_empty-clause-kept
-returns-then-is_empty-clause-kept c = grind (arith, common_steps)
+returns-then-is_empty-clause-kept g c = grind (arith, common_steps)

@@ -1,8 +1,0 @@
-use Rattle.std.proofs.Common.{rules}
-use Rattle.md_rounds.proofs.turn_replies.TurnRepliesReplyListBookReply.append.Goals as goal
-
-pub returns-clause-all : goal.returns-clause-all
-returns-clause-all c = search rules depth 1
-
-pub returns-clause-last : goal.returns-clause-last
-returns-clause-last c = search rules depth 1
