@@ -1,3 +1,4 @@
 pub mod Names
 pub mod Days
 pub mod Lawful
+pub mod Records

@@ -8,3 +8,6 @@ pub mod Scripts
 pub mod Sweeping
 pub mod Meets
 pub mod MatchRules
+pub mod MatchRecords
+pub mod MatchPacking
+pub mod MatchTexts

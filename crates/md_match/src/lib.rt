@@ -16,7 +16,10 @@ mod limits;
 mod maps;
 mod match_rules;
 mod matching;
+mod packing;
+mod records;
 mod sweeping;
+mod texts;
 
 pub use commands::{At, MatchCommand, MatchReply};
 pub use laws::{
@@ -25,3 +28,4 @@ pub use laws::{
 };
 pub use limits::{MATCH_CONTENTS, MATCH_NODES, MATCH_ORDERS, MATCH_READS, MATCH_WRITES, MAX_LOOKS};
 pub use maps::{MATCH_MAPS, PRICE_BITS};
+pub use packing::MatchHead;

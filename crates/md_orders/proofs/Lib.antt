@@ -2,6 +2,7 @@ pub mod Digits
 pub mod ByCaller
 pub mod Keeps
 pub mod Terms
+pub mod Kinds
 pub mod Orders
 pub mod Lines
 pub mod Rows

@@ -1,6 +1,6 @@
 -- The grammar of order files keeps its laws.
-use Rattle.std.proofs.Common.{◌≡◌, ℕ, Bool, true, false, cond, Option, Some, None, length, refl, sym, ap, subst, inl, inr}
-use Rattle.std.specs.Prelude.{◌&&◌, ◌==◌, option_and_then}
+use Rattle.std.proofs.Common.{◌≡◌, ℕ, Option, Some, None, length, refl, sym, ap, subst, inl, inr}
+use Rattle.std.specs.Prelude.{◌&&◌, ◌==◌}
 use Rattle.std.specs.Option.{option_map}
 use Rattle.md_book.specs.declared.commands.Command.{Command}
 use Rattle.md_book.specs.declared.commands.Command.TheVariants.{Place, Cancel, Fill, Kill, Depth, Account}
@@ -15,6 +15,7 @@ use Rattle.md_orders.specs.Version.{places_of}
 use Rattle.md_orders.specs.Grammar.{IsGrammar, byte_at, account_at, terms_of, order_at, level_at}
 use Rattle.md_orders.specs.Orders.{place_of, cancel_of, fill_of, kill_of, depth_of, account_of, command_of_kind, command_of, renamed, order_grammar}
 use Rattle.md_orders.proofs.Keeps.{and_then-inv, map-inv, number_at-inv}
+use Rattle.md_orders.proofs.Kinds.{one_of, choice-same, map-same, then-same}
 use Rattle.md_orders.proofs.Terms.{terms-inv, order_at-inv, level_at-inv}
 
 -- in range, and its order has the name
@@ -63,11 +64,6 @@ account-lawful name row c e =
     let a = number_at-inv row 2 1 MAX_ACCOUNT account account_is in
     subst (IsLawful name) is (record { low = a.0; high = a.1 }, tt)
 
--- what holds of the one choice and of the other
-one_of : {A : Type 0} (P : A → Type 0) (b : Bool) (x y : Option A) (c : A) → (x ≡ Some c → P c) → (y ≡ Some c → P c) → cond b x y ≡ Some c → P c
-one_of P true x y c left right e = left e
-one_of P false x y c left right e = right e
-
 -- the command of every record is in range and named
 pub command_of-lawful : (version : Version) (name : ℕ) (row : Row) (c : Command) → IsName name → command_of version name row ≡ Some c → IsLawful name c
 unfolding command_of
@@ -107,16 +103,6 @@ renamed-same name (Kill account side price quantity places) is = refl
 renamed-same name (Depth side price) is = refl
 renamed-same name (Account account) is = refl
 
--- a choice, each side of which is renamed
-renamed-choice : (m : ℕ) (b : Bool) (x y x2 y2 : Option Command) → x ≡ option_map (renamed m) x2 → y ≡ option_map (renamed m) y2 → cond b x y ≡ option_map (renamed m) (cond b x2 y2)
-renamed-choice m true x y x2 y2 l r = l
-renamed-choice m false x y x2 y2 l r = r
-
--- a command that is the same with any name
-renamed-map : {A : Type 0} (m : ℕ) (f : A → Command) (o : Option A) → ((x : A) → f x ≡ renamed m (f x)) → option_map f o ≡ option_map (renamed m) (option_map f o)
-renamed-map m f None same = refl
-renamed-map m f (Some x) same = ap Some (same x)
-
 -- a placed order
 renamed-place : (n m : ℕ) (o : Option Terms) → option_map (λ t. Place m t.account t.side t.price t.quantity) o ≡ option_map (renamed m) (option_map (λ t. Place n t.account t.side t.price t.quantity) o)
 renamed-place n m None = refl
@@ -125,20 +111,16 @@ renamed-place n m (Some t) = refl
 -- a record whose order gets another name writes the command with that name
 pub command_of-renamed : (version : Version) (n m : ℕ) (row : Row) → command_of version m row ≡ option_map (renamed m) (command_of version n row)
 unfolding command_of
-command_of-renamed version n m row = then-each (byte_at row 1)
+command_of-renamed version n m row = then-same (renamed m) _ _ (byte_at row 1) kinds
   where
     kinds : (kind : ℕ) → command_of_kind version m row kind ≡ option_map (renamed m) (command_of_kind version n row kind)
     kinds kind =
-        renamed-choice m ((kind == 80) && (length row == 6)) _ _ _ _ (renamed-place n m (terms_of row))
-        (renamed-choice m ((kind == 67) && (length row == 4)) _ _ _ _ (renamed-map m _ (order_at version row) (λ order. refl))
-        (renamed-choice m ((kind == 70) && (length row == 6)) _ _ _ _ (renamed-map m _ (terms_of row) (λ t. refl))
-        (renamed-choice m ((kind == 75) && (length row == 6)) _ _ _ _ (renamed-map m _ (terms_of row) (λ t. refl))
-        (renamed-choice m ((kind == 68) && (length row == 4)) _ _ _ _ (renamed-map m _ (level_at row) (λ level. refl))
-        (renamed-choice m ((kind == 65) && (length row == 3)) _ _ _ _ (renamed-map m _ (account_at row 2) (λ account. refl)) refl)))))
-
-    then-each : (o : Option ℕ) → option_and_then (command_of_kind version m row) o ≡ option_map (renamed m) (option_and_then (command_of_kind version n row) o)
-    then-each None = refl
-    then-each (Some kind) = kinds kind
+        choice-same (renamed m) ((kind == 80) && (length row == 6)) _ _ _ _ (renamed-place n m (terms_of row))
+        (choice-same (renamed m) ((kind == 67) && (length row == 4)) _ _ _ _ (map-same (renamed m) _ (order_at version row) (λ order. refl))
+        (choice-same (renamed m) ((kind == 70) && (length row == 6)) _ _ _ _ (map-same (renamed m) _ (terms_of row) (λ t. refl))
+        (choice-same (renamed m) ((kind == 75) && (length row == 6)) _ _ _ _ (map-same (renamed m) _ (terms_of row) (λ t. refl))
+        (choice-same (renamed m) ((kind == 68) && (length row == 4)) _ _ _ _ (map-same (renamed m) _ (level_at row) (λ level. refl))
+        (choice-same (renamed m) ((kind == 65) && (length row == 3)) _ _ _ _ (map-same (renamed m) _ (account_at row 2) (λ account. refl)) refl)))))
 
 pub order-grammar-holds : IsGrammar order_rules order_grammar
 order-grammar-holds = record {

@@ -8,5 +8,5 @@ mod told;
 
 pub use in_threads::lines_in_threads;
 pub use text::line_buffer::LineBuffer;
-pub use text::{REPLY, after_lines, report, summary};
+pub use text::{REPLY, after_lines, name, number_behind, report, summary};
 pub use told::ToldReply;

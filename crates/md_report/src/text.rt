@@ -67,9 +67,9 @@ fn labelled<I: Integer>(out: &mut Vec<u8>, label: &[u8], n: I) -> Result<(), All
     number(out, n)
 }
 
-// Words, and a number behind them.
+/// Words, and a number behind them.
 #[inline(always)]
-fn number_behind(line: &mut LineBuffer, words: &[u8], n: u64)
+pub fn number_behind(line: &mut LineBuffer, words: &[u8], n: u64)
     requires { length words.now + DIGITS + length line.old ≤ SIZE }
     ensures text { line.new ≡ words.now ++ decimal n ++ line.old }
     ensures short { length line.new ≤ length words.now + DIGITS + length line.old }
@@ -78,9 +78,9 @@ fn number_behind(line: &mut LineBuffer, words: &[u8], n: u64)
     line.bytes(words);
 }
 
-// CALLER:LINE of an order's name.
+/// CALLER:LINE of an order's name.
 #[inline(always)]
-fn name(line: &mut LineBuffer, name: u64)
+pub fn name(line: &mut LineBuffer, name: u64)
     requires { NAME + length line.old ≤ SIZE }
     ensures text { line.new ≡ name_text name ++ line.old }
     ensures short { length line.new ≤ NAME + length line.old }
