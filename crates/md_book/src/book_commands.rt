@@ -6,7 +6,7 @@ use md_history::Body;
 
 /// A command of a book, with the rules by which it trades: `Command`, or that of another book over
 /// the same levels and accounts.
-pub trait BookCommand: Body + Copy + Drop + Send + Sync {
+pub trait BookCommand: Body + Copy + Drop {
     ghost use Rattle.md_book.specs.Rules.{Rules, AreLawful};
 
     /// What such commands do to a book and answer, and which maps and queues stand for it.

@@ -4,9 +4,10 @@ use Rattle.std.proofs.lemmas.Bool.{cases_lt}
 use Rattle.std.proofs.lemmas.Nat.{div-mul-add, mod-mul-add, mod_below, div-add-mod', row_fits}
 use Rattle.md_book.specs.declared.commands.Command.{Command}
 use Rattle.md_book.specs.Commands.{name_of}
+use Rattle.md_book.specs.OrderRules.{IsNamed, order_rules}
 use Rattle.md_orders.specs.declared.generator.TheConstants.{MAX_MADE_CALLERS}
 use Rattle.md_orders.specs.Records.{max_records}
-use Rattle.md_orders.specs.Scripts.{list_of, with_list, at_line, IsNamed, AreKept}
+use Rattle.md_orders.specs.Scripts.{list_of, with_list, at_line, AreKept}
 use Rattle.md_orders.specs.Generator.{AreMade}
 use Rattle.md_orders.specs.Maker.{maker_at, made_at}
 use Rattle.md_orders.proofs.ByCaller.{kept-add}
@@ -29,9 +30,9 @@ made-are number callers (suc i) low =
 
 -- the scripts keep what scripts keep
 pub made-keep : (number callers i : ℕ) → 1 ≤ callers → callers ≤ MAX_MADE_CALLERS → i ≤ max_records
-    → AreKept i (made_scripts number callers i)
+    → AreKept order_rules i (made_scripts number callers i)
 unfolding made_scripts
-made-keep number callers zero low high few = kept-none callers (replicate callers []) (omega arith) refl
+made-keep number callers zero low high few = kept-none order_rules callers (replicate callers []) (omega arith) refl
 made-keep number callers (suc i) low high few =
     let next : suc i ≡ i + 1 = omega arith in
     let before = made_scripts number callers i in
@@ -42,8 +43,8 @@ made-keep number callers (suc i) low high few =
     let kept = made-keep number callers i low high (omega arith) in
     let at = (made-next number i callers before (maker_at number callers i) m are low refl refl).0 in
     let good = made-lawful number callers i low high (omega arith) in
-    subst (λ k. AreKept k (with_command before m)) (sym next)
-    (kept-add i before c m.2 kept (omega arith) (omega (arith, are.callers_are)) (omega (arith, kept.counted))
+    subst (λ k. AreKept order_rules k (with_command before m)) (sym next)
+    (kept-add order_rules i before c m.2 kept (omega arith) (omega (arith, are.callers_are)) (omega (arith, kept.counted))
     (good.0, subst (λ k. IsNamed (name_of c k) m.2) at good.1))
 
 -- the command of a caller's line

@@ -77,21 +77,20 @@ impl<R: Wait + Sync> Lines for FeedLines<'_, R> {
 
 impl<R: Wait + Sync> LawfulLines for FeedLines<'_, R> {
     ghost use Rattle.std.specs.Option.{IsSomeAnd};
-    ghost use Rattle.md_book.specs.Suits.{Suits};
-    ghost use Rattle.md_book.specs.Meets.{command_bounds};
+    ghost use Rattle.md_book.specs.OrderRules.{order_rules};
+    ghost use Rattle.md_book.specs.Rules.{without_orders};
     ghost use Rattle.md_orders.specs.Scripts.{at_line};
-    ghost use Rattle.md_rounds.specs.Replay.{no_orders};
-    ghost use Rattle.md_rounds.specs.Traded.{HasTraded, MOST_NODES};
+    ghost use Rattle.md_rounds.specs.Traded.{HasTraded};
     ghost use Rattle.md_feed_lines.specs.Planned.{scripts_of};
 
-    ghost opening = { λ l. no_orders };
+    ghost opening = { λ l. without_orders order_rules };
 
-    ghost good = { λ l s tags. HasTraded (scripts_of l.plan) s tags };
+    ghost good = { λ l s tags. HasTraded order_rules (scripts_of l.plan) s tags };
 
     ghost suits = { λ l caller line r.
-        IsSomeAnd (at_line (scripts_of l.plan) caller line) (λ c. Suits (c, r)) };
+        IsSomeAnd (at_line (scripts_of l.plan) caller line) (λ c. order_rules.suits (c, r)) };
 
-    ghost cost = { λ l. command_bounds };
+    ghost cost = { λ l. order_rules.bounds };
 
-    ghost most = { λ l. MOST_NODES };
+    ghost most = { λ l. order_rules.most };
 }

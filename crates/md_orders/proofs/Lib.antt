@@ -1,8 +1,8 @@
 pub mod Digits
 pub mod ByCaller
 pub mod Keeps
-pub mod Terms
-pub mod Kinds
+pub mod FieldTerms
+pub mod RecordKinds
 pub mod Orders
 pub mod Lines
 pub mod Rows

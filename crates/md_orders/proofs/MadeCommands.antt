@@ -7,7 +7,7 @@ use Rattle.md_book.specs.Commands.{IsCommand, IsName, IsOffer, name_of}
 use Rattle.md_orders.specs.declared.generator.Draws.{Draws}
 use Rattle.md_orders.specs.declared.generator.TheConstants.{MAX_MADE_CALLERS}
 use Rattle.md_orders.specs.Records.{max_records}
-use Rattle.md_orders.specs.Scripts.{IsNamed}
+use Rattle.md_book.specs.OrderRules.{IsNamed}
 use Rattle.md_orders.specs.Generator.{draws_of, made_of_kind}
 use Rattle.md_orders.specs.Maker.{made_at}
 

@@ -15,8 +15,8 @@ use Rattle.md_orders.specs.Version.{places_of}
 use Rattle.md_orders.specs.Grammar.{IsGrammar, byte_at, account_at, terms_of, order_at, level_at}
 use Rattle.md_orders.specs.Orders.{place_of, cancel_of, fill_of, kill_of, depth_of, account_of, command_of_kind, command_of, renamed, order_grammar}
 use Rattle.md_orders.proofs.Keeps.{and_then-inv, map-inv, number_at-inv}
-use Rattle.md_orders.proofs.Kinds.{one_of, choice-same, map-same, then-same}
-use Rattle.md_orders.proofs.Terms.{terms-inv, order_at-inv, level_at-inv}
+use Rattle.md_orders.proofs.RecordKinds.{one_of, choice-same, map-same, then-same}
+use Rattle.md_orders.proofs.FieldTerms.{terms-inv, order_at-inv, level_at-inv}
 
 -- in range, and its order has the name
 abbrev pub IsLawful : ℕ → Command → Type 0

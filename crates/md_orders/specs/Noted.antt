@@ -36,17 +36,17 @@ pub record IsNoted {C : Type 0} (grammar : Grammar C) (known : Option Version) (
   pub noted : AreNoted grammar callers (file_as known rows) scripts bad
 
 -- the same, of notes
-abbrev pub AreNotes : {C : Type 0} → Grammar C → Option Version → ℕ → List Row → Notes C → Type 0
+abbrev pub AreNotes : {C R : Type 0} → Grammar C → Option Version → ℕ → List Row → Notes C R → Type 0
 AreNotes grammar known callers rows notes =
     IsNoted grammar known callers rows notes.count notes.version notes.scripts notes.bad
 
 -- notes of all records, if this is so; else there are too many
-abbrev pub AreAllNoted : {C : Type 0} → Grammar C → Option Version → ℕ → List Row → Notes C → Bool → Type 0
+abbrev pub AreAllNoted : {C R : Type 0} → Grammar C → Option Version → ℕ → List Row → Notes C R → Bool → Type 0
 AreAllNoted grammar known callers rows notes true = AreNotes grammar known callers rows notes × AreFewRecords rows
 AreAllNoted grammar known callers rows notes false = ¬ AreFewRecords rows
 
 -- what a read of records returns: notes of them, or that they are too many; or memory ran out
-abbrev pub IsReadAsNotes : {C : Type 0} → Grammar C → Option Version → ℕ → List Row → Result (Notes C) OrderFault → Type 0
+abbrev pub IsReadAsNotes : {C R : Type 0} → Grammar C → Option Version → ℕ → List Row → Result (Notes C R) OrderFault → Type 0
 IsReadAsNotes grammar known callers rows (Ok notes) = AreNotes grammar known callers rows notes × AreFewRecords rows
 IsReadAsNotes grammar known callers rows (Err TooMany) = ¬ AreFewRecords rows
 IsReadAsNotes grammar known callers rows (Err (BadLine n)) = ⊥

@@ -2,13 +2,8 @@
 
 ghost use Rattle.std.specs.Prelude.{◌≡◌};
 ghost use Rattle.csv.specs.Records.{fields_of};
-<<<<<<< HEAD
-ghost use Rattle.md_orders.specs.Grammar.{account_at, price_at, quantity_at, terms_of, place_of};
-ghost use Rattle.md_orders.specs.Grammar.{cancel_of, fill_of, kill_of, depth_of, account_of};
-ghost use Rattle.md_orders.specs.Grammar.{command_of, caller_of};
-=======
-ghost use Rattle.md_orders.specs.Orders.{place_of, cancel_of, fill_of, kill_of, depth_of, account_of, command_of};
->>>>>>> a53120de (Draft: order files of any kind of command)
+ghost use Rattle.md_orders.specs.Orders.{place_of, cancel_of, fill_of, kill_of, depth_of};
+ghost use Rattle.md_orders.specs.Orders.{account_of, command_of};
 
 use crate::fields::byte_at;
 use crate::terms::{account_at, level_at, order_at, terms_of};

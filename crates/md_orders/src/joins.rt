@@ -58,19 +58,12 @@ pub(crate) fn join_reads<C: ScriptCommand>(
 ) -> Result<Notes<C>, OrderFault>
     requires few { callers ≤ MAX_CALLER }
     requires reads { (version : Version) × (low : List Row) × (high : List Row)
-<<<<<<< HEAD
-        × IsReadAsNotes (Some version) callers low first
-        × IsReadAsNotes (Some version) callers high second }
+        × IsReadAsNotes C.grammar (Some version) callers low first
+        × IsReadAsNotes C.grammar (Some version) callers high second }
     ensures { (version : Version) → (low : List Row) → (high : List Row)
-        → IsReadAsNotes (Some version) callers low first
-        → IsReadAsNotes (Some version) callers high second
-        → IsReadAsNotes (Some version) callers (low ++ high) result }
-=======
-        × IsReadAsNotes C.grammar (Some version) callers low first × IsReadAsNotes C.grammar (Some version) callers high second }
-    ensures { (version : Version) → (low : List Row) → (high : List Row)
-        → IsReadAsNotes C.grammar (Some version) callers low first → IsReadAsNotes C.grammar (Some version) callers high second
+        → IsReadAsNotes C.grammar (Some version) callers low first
+        → IsReadAsNotes C.grammar (Some version) callers high second
         → IsReadAsNotes C.grammar (Some version) callers (low ++ high) result }
->>>>>>> a53120de (Draft: order files of any kind of command)
 {
     join_notes(first?, second?, callers)
 }

@@ -17,6 +17,7 @@ use crate::scripts::Scripts;
 use crate::version::Version;
 use md_book::MAX_CALLER;
 use std::alloc::Global;
+use std::marker::PhantomData;
 use std::thread;
 use std::thread::Threads;
 
@@ -33,16 +34,19 @@ fn parts_for(callers: u32) -> u32 {
 
 // Reads the records of bytes in at most so many parts, or in one if that is 0. One thread reads the
 // first part, and another goes on with the rest. If no cut is known to be right, this thread reads
-// them all.
+// them all. What a thread returns is of a type that its closure holds: `kind`.
 #[cycle(parts)]
-fn read_parts<R: Threads + Sync, C: ScriptCommand>(
+fn read_parts<R: Threads + Sync, C: ScriptCommand + Send>(
     rt: &R,
     alloc: Global,
     bytes: &[u8],
     callers: u32,
     version: Version,
     parts: u32,
+    kind: PhantomData<Scripts<C>>,
 ) -> Result<Notes<C>, OrderFault>
+where
+    C::Reply: Send,
     requires { (1 ≤ callers) × (callers ≤ MAX_CALLER) }
     ensures { IsReadAsNotes C.grammar (Some version) callers (order_records bytes.now) result }
 {
@@ -53,14 +57,17 @@ fn read_parts<R: Threads + Sync, C: ScriptCommand>(
     let (first, second) = thread::join(
         rt,
         move || -> Result<Notes<C>, OrderFault>
+            requires sync { IsSync R.row }
             requires range { (1 ≤ callers) × (callers ≤ MAX_CALLER) }
-            ensures { IsReadAsNotes C.grammar (Some version) callers (order_records low.entry.now) result }
-        { read_records(alloc, low, callers, Some(version)) },
+            ensures { IsReadAsNotes C.grammar (Some version) callers
+                (order_records low.entry.now) result }
+        { read_parts(rt, alloc, low, callers, version, 1, kind) },
         move || -> Result<Notes<C>, OrderFault>
             requires sync { IsSync R.row }
             requires range { (1 ≤ callers) × (callers ≤ MAX_CALLER) }
-            ensures { IsReadAsNotes C.grammar (Some version) callers (order_records high.entry.now) result }
-        { read_parts(rt, alloc, high, callers, version, fewer) },
+            ensures { IsReadAsNotes C.grammar (Some version) callers
+                (order_records high.entry.now) result }
+        { read_parts(rt, alloc, high, callers, version, fewer, kind) },
     );
     join_reads(first, second, callers)
 }
@@ -85,18 +92,22 @@ fn scripts_of_version_2<C: ScriptCommand>(notes: Notes<C>) -> Result<Scripts<C>,
 }
 
 // Reads the lines of a file of version 2, which stand after its first record.
-fn read_version_2<R: Threads + Sync, C: ScriptCommand>(
+fn read_version_2<R: Threads + Sync, C: ScriptCommand + Send>(
     rt: &R,
     alloc: Global,
     lines: &[u8],
     callers: u32,
     parts: u32,
 ) -> Result<Scripts<C>, OrderFault>
+where
+    C::Reply: Send,
     requires told { C.grammar.known ≡ None }
     requires range { (1 ≤ callers) × (callers ≤ MAX_CALLER) }
     ensures { IsReadAs C.grammar callers (version_record ∷ order_records lines.now) result }
 {
-    scripts_of_version_2(read_parts(rt, alloc, lines, callers, Version::Second, parts)?)
+    scripts_of_version_2(read_parts(
+        rt, alloc, lines, callers, Version::Second, parts, PhantomData,
+    )?)
 }
 
 // The scripts of a file, each of whose records is a line of a known version, from what was noted of
@@ -118,13 +129,15 @@ fn scripts_of_lines<C: ScriptCommand>(notes: Notes<C>) -> Result<Scripts<C>, Ord
 
 // Reads the scripts of a file whose first record tells its version, in at most so many parts, or in
 // one if that is 0.
-fn read_told<R: Threads + Sync, C: ScriptCommand>(
+fn read_told<R: Threads + Sync, C: ScriptCommand + Send>(
     rt: &R,
     alloc: Global,
     bytes: &[u8],
     callers: u32,
     parts: u32,
 ) -> Result<Scripts<C>, OrderFault>
+where
+    C::Reply: Send,
     requires told { C.grammar.known ≡ None }
     requires range { (1 ≤ callers) × (callers ≤ MAX_CALLER) }
     ensures { IsReadAs C.grammar callers (order_records bytes.now) result }
@@ -132,7 +145,8 @@ fn read_told<R: Threads + Sync, C: ScriptCommand>(
     if let Some(lines) = lines_of_version_2(bytes) {
         return read_version_2(rt, alloc, lines, callers, parts);
     }
-    let notes: Notes<C> = read_parts(rt, alloc, bytes, callers, Version::First, parts)?;
+    let notes: Notes<C> =
+        read_parts(rt, alloc, bytes, callers, Version::First, parts, PhantomData)?;
     match notes.bad {
         None => Ok(notes.scripts),
         Some(number) if number > 1 => Err(OrderFault::BadLine(number)),
@@ -143,19 +157,23 @@ fn read_told<R: Threads + Sync, C: ScriptCommand>(
 
 // Reads the scripts of an order file, as `read_orders` does, in at most so many parts, or in one if
 // that is 0.
-fn read_in_parts<R: Threads + Sync, C: ScriptCommand>(
+fn read_in_parts<R: Threads + Sync, C: ScriptCommand + Send>(
     rt: &R,
     alloc: Global,
     bytes: &[u8],
     callers: u32,
     parts: u32,
 ) -> Result<Scripts<C>, OrderFault>
+where
+    C::Reply: Send,
     requires { (1 ≤ callers) × (callers ≤ MAX_CALLER) }
     ensures { IsReadAs C.grammar callers (order_records bytes.now) result }
 {
     match C::version() {
         None => read_told(rt, alloc, bytes, callers, parts),
-        Some(version) => scripts_of_lines(read_parts(rt, alloc, bytes, callers, version, parts)?),
+        Some(version) => {
+            scripts_of_lines(read_parts(rt, alloc, bytes, callers, version, parts, PhantomData)?)
+        }
     }
 }
 
@@ -176,12 +194,14 @@ fn read_in_parts<R: Threads + Sync, C: ScriptCommand>(
 ///
 /// Otherwise the bytes are read once, after a search for double quotes. No command is copied when
 /// the parts are put together.
-pub fn read_orders_in_threads<R: Threads + Sync, C: ScriptCommand>(
+pub fn read_orders_in_threads<R: Threads + Sync, C: ScriptCommand + Send>(
     rt: &R,
     alloc: Global,
     bytes: &[u8],
     callers: u32,
 ) -> Result<Scripts<C>, OrderFault>
+where
+    C::Reply: Send,
     requires { (1 ≤ callers) × (callers ≤ MAX_CALLER) }
     ensures scripts { IfOk result (λ scripts. AreFewRecords (order_records bytes.now)
         × AreScripts C.grammar callers (order_records bytes.now) scripts) }

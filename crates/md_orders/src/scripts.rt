@@ -12,7 +12,7 @@ ghost use Rattle.md_orders.specs.Joined.{AreJoined};
 
 use crate::script_commands::ScriptCommand;
 use crate::segments::Segments;
-use md_book::{MAX_CALLER, order_name};
+use md_book::{Command, MAX_CALLER, order_name};
 use std::alloc::{AllocError, Global};
 use std::marker::Model;
 
@@ -22,7 +22,7 @@ use std::marker::Model;
 /// The name of an order is that of its caller and line, whatever name is stored with the command.
 /// So the parts of a file are put together without a copy of their commands.
 #[derive(Drop)]
-pub struct Scripts<C: ScriptCommand> {
+pub struct Scripts<C: ScriptCommand = Command> {
     scripts: Vec<Segments<C>>,
     total: u32,
 }

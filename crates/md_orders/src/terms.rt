@@ -2,7 +2,8 @@
 
 ghost use Rattle.std.specs.Prelude.{◌≡◌};
 ghost use Rattle.csv.specs.Records.{fields_of};
-ghost use Rattle.md_orders.specs.Grammar.{account_at, price_at, quantity_at, terms_of, order_at, level_at, caller_of};
+ghost use Rattle.md_orders.specs.Grammar.{account_at, price_at, quantity_at, terms_of};
+ghost use Rattle.md_orders.specs.Grammar.{order_at, level_at, caller_of};
 
 use crate::fields::{number_at, side_at};
 use crate::version::Version;

@@ -8,6 +8,7 @@ use Rattle.md_outside.specs.declared.std_sink.StdSink.{StdSink}
 use Rattle.md_outside.specs.declared.std_source.StdSource.{StdSource}
 use Rattle.md_orders.specs.Records.{order_records, AreFewRecords}
 use Rattle.md_orders.specs.Grammar.{first_bad}
+use Rattle.md_orders.specs.Orders.{order_grammar}
 use Rattle.md_program_edge.specs.declared.status.Status.{Status}
 use Rattle.md_program_edge.specs.declared.status.Status.TheVariants.{Done, Usage, BadLine, ReadFault, WriteFault, NoMemory}
 use Rattle.md_program_edge.specs.declared.status.Status.TheVariants.{TooLong, TooMany}
@@ -68,7 +69,7 @@ module _ {R W : Type 0} (remaining : R → Option (List ℕ)) (contents : W → 
       → StopsReplay (StdGives remaining) left source_faults source source' callers status
       → StopsAtBytes callers (source_bytes source') status
   stops-at callers (BadLine n) (bytes, read, few, bad) =
-      subst (λ bs. AreFewRecords (order_records bs) × (first_bad callers (order_records bs) ≡ Some n))
+      subst (λ bs. AreFewRecords (order_records bs) × (first_bad order_grammar callers (order_records bs) ≡ Some n))
       (given bytes (reads.to_end source bytes read.reads)) (few, bad)
   stops-at callers TooMany (bytes, read, many) =
       subst (λ bs. ¬ AreFewRecords (order_records bs)) (given bytes (reads.to_end source bytes read.reads)) many

@@ -7,6 +7,7 @@ use Rattle.md_outside.specs.declared.std_sink.StdSink.{StdSink}
 use Rattle.md_outside.specs.declared.std_source.StdSource.{StdSource}
 use Rattle.md_orders.specs.Records.{order_records, AreFewRecords}
 use Rattle.md_orders.specs.Grammar.{first_bad}
+use Rattle.md_orders.specs.Orders.{order_grammar}
 use Rattle.md_program_edge.specs.declared.status.Status.{Status}
 use Rattle.md_program_edge.specs.declared.status.Status.TheVariants.{Done, Usage, BadLine, ReadFault, WriteFault, NoMemory}
 use Rattle.md_program_edge.specs.declared.status.Status.TheVariants.{TooLong, TooMany}
@@ -26,7 +27,7 @@ PlaysBytes callers (Some making) given fronts text = (given ≡ []) × IsSummed 
 -- why a replay stopped before its report, by the bytes that were read
 abbrev pub StopsAtBytes : (callers : ℕ) → (given : List ℕ) → Status → Type 0
 StopsAtBytes callers given (BadLine n) =
-    AreFewRecords (order_records given) × (first_bad callers (order_records given) ≡ Some n)
+    AreFewRecords (order_records given) × (first_bad order_grammar callers (order_records given) ≡ Some n)
 StopsAtBytes callers given TooMany = ¬ AreFewRecords (order_records given)
 StopsAtBytes callers given TooLong = length given ≡ max_bytes + 1
 StopsAtBytes callers given ReadFault = length given ≤ max_bytes

@@ -9,11 +9,12 @@ ghost use Rattle.md_many.specs.Played.{IsToldOfEach};
 ghost use Rattle.md_rounds.specs.OrderLines.{line_count_of};
 ghost use Rattle.md_rounds.specs.Replay.{IsPlayed};
 ghost use Rattle.md_program_play.specs.Opened.{IsOpenFor};
-ghost use Rattle.md_program_play.specs.declared.playing.TheConstants.{MAX_LANE_NODES, MAX_STORE_NODES};
+ghost use Rattle.md_program_play.specs.declared.playing.TheConstants.{MAX_LANE_NODES};
+ghost use Rattle.md_program_play.specs.declared.playing.TheConstants.{MAX_STORE_NODES};
 ghost use Rattle.md_store.specs.Store.{front_in};
 ghost use Rattle.md_program_edge.specs.Options.{AreInRange};
 
-use md_book::{COMMAND_NODES, Command};
+use md_book::COMMAND_NODES;
 use md_orders::Scripts;
 use md_program_edge::Options;
 use md_program_play::{OpenStore, open_store, play_on_store};
@@ -39,7 +40,7 @@ const LINE_NODES: u32 = 3;
 const LINE_BYTES: u32 = 16;
 
 // How many lines the caller with the most lines has.
-fn longest(scripts: &Scripts<Command>) -> u32
+fn longest(scripts: &Scripts) -> u32
     requires { length scripts.now ≤ 64 }
 {
     let mut most = 0;
@@ -114,7 +115,7 @@ pub fn open_for(alloc: Global, options: &Options, bytes: u32) -> Result<OpenStor
 pub fn play<R, G>(
     rt: &R,
     alloc: Global,
-    scripts: &Scripts<Command>,
+    scripts: &Scripts,
     options: &Options,
     gate: &G,
 ) -> Result<Outcome<StorePass>, AllocError>

@@ -14,6 +14,7 @@ use md_history::Front;
 use md_orders::{ScriptCommand, Scripts};
 use md_program_play::close_for_report;
 use md_report::{ToldReply, after_lines, lines_in_threads};
+use md_report_replies::PackedReply;
 use md_rounds::{OpenOutcome, Rounds};
 use md_store::{Store, StorePass};
 use std::alloc::{AllocError, Global};
@@ -47,8 +48,9 @@ pub fn tell_and_close<C, R>(
     played: OpenOutcome<Store, C::Reply>,
 ) -> Result<PlayedText, AllocError>
 where
-    C: ScriptCommand,
-    C::Reply: ToldReply,
+    C: ScriptCommand + Sync,
+    C::Reply: ToldReply + Send + Sync,
+    <C::Reply as PackedReply>::Head: Send + Sync,
     R: Threads + Sync,
     requires of { IsPassOf played.rounds.engine played.rounds.pass }
     requires all { (front_in played.rounds.pass).lanes
@@ -68,7 +70,7 @@ where
     let (lines, closed) = thread::join(
         rt,
         move || -> Result<Vec<Vec<u8>>, AllocError>
-            requires sync { IsSync R.row }
+            requires sync { IsSync R.row × IsSync C.row }
             ensures { IfOk result (λ parts. whole_text parts.items
                 ≡ replies_text C.Reply.text scripts.entry.now replies) }
         { lines_in_threads(rt, alloc, scripts, &replies) },

@@ -16,13 +16,14 @@ ghost use Rattle.md_program_edge.specs.Words.{texts};
 ghost use Rattle.md_program_edge.specs.Options.{AreInRange, Write};
 ghost use Rattle.md_program.specs.Words.{AreAccepted};
 ghost use Rattle.md_program.specs.Replay.{IsSummed};
-ghost use Rattle.md_program.specs.Run.{Answers, EndsWell, HasPlayed, StopsReplay, StopsWith, IsReplayed};
+ghost use Rattle.md_program.specs.Run.{Answers, EndsWell, HasPlayed, StopsReplay, StopsWith};
+ghost use Rattle.md_program.specs.Run.{IsReplayed};
 ghost use Rattle.md_program.specs.Run.{RefusesWords, ToldAlone};
 
 use crate::play::{open_for, play};
 use crate::report::{PlayedText, tell_and_close, with_last};
 use crate::status::Run;
-use md_book::{Command, MAX_CALLER};
+use md_book::MAX_CALLER;
 use md_orders::{OrderFault, Scripts, make, read_orders_in_threads};
 use md_outside::{Failed, Sink, Source};
 use md_program_edge::{Making, Options, Status, read_all, read_options, tell, write_parts};
@@ -61,7 +62,7 @@ where
     let count = u32::try_from(bytes.len()).unwrap_or(u32::MAX);
     let (scripts, opened) = thread::join(
         rt,
-        move || -> Result<Scripts<Command>, OrderFault>
+        move || -> Result<Scripts, OrderFault>
             requires sync { IsSync R.row }
             requires range { (1 ≤ callers) × (callers ≤ MAX_CALLER) }
             ensures scripts { IfOk result (λ scripts. AreFewRecords (order_records records.entry.now)
@@ -74,7 +75,8 @@ where
         { read_orders_in_threads(rt, alloc, records, callers) },
         move || -> Result<OpenStore, AllocError>
             requires in_range { AreInRange options.now }
-            ensures { IfOk result (λ o. IsOpenFor order_rules options.entry.now.callers o.store o.pass) }
+            ensures { IfOk result (λ o.
+                IsOpenFor order_rules options.entry.now.callers o.store o.pass) }
         { open_for(alloc, options, count) },
     );
     let scripts = scripts?;

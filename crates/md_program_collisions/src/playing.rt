@@ -3,7 +3,7 @@
 ghost use Rattle.std.specs.Prelude.{◌≡◌, ◌≤◌, length};
 
 use crate::shapes::narrow_shape;
-use md_book::{Command, LEVELS, MAPS};
+use md_book::{LEVELS, MAPS};
 use md_history::Contents;
 use md_many::Gate;
 use md_orders::Scripts;
@@ -19,7 +19,7 @@ use std::thread::Threads;
 pub fn play_narrow<R, G>(
     rt: &R,
     alloc: Global,
-    scripts: &Scripts<Command>,
+    scripts: &Scripts,
     tries: u32,
     gate: &G,
 ) -> Result<Outcome<StorePass>, AllocError>

@@ -82,7 +82,7 @@ fn no_lines(alloc: Global, callers: u32) -> Result<Vec<Vec<Told>>, AllocError> {
 fn play_next<G: Gate>(
     plain: &mut Plain,
     callers: &mut [Vec<Told>],
-    scripts: &Scripts<Command>,
+    scripts: &Scripts,
     caller: u32,
     gate: &G,
 ) -> Result<(), AllocError> {
@@ -104,7 +104,7 @@ fn play_next<G: Gate>(
 fn play_each<G: Gate>(
     plain: &mut Plain,
     callers: &mut [Vec<Told>],
-    scripts: &Scripts<Command>,
+    scripts: &Scripts,
     order: &[u32],
     gate: &G,
 ) -> Result<(), AllocError> {
@@ -119,7 +119,7 @@ fn play_each<G: Gate>(
 /// after each line. `AllocError` if memory runs out.
 pub fn play_in_order<G: Gate>(
     alloc: Global,
-    scripts: &Scripts<Command>,
+    scripts: &Scripts,
     order: &[u32],
     gate: &G,
 ) -> Result<Replayed, AllocError> {

@@ -41,7 +41,7 @@ struct Stage {
 // The lines of a caller with their replies. `None` if one has no reply.
 fn lines_told_to(
     alloc: Global,
-    scripts: &Scripts<Command>,
+    scripts: &Scripts,
     replies: &Replies,
     caller: u32,
 ) -> Result<Option<Vec<Told>>, AllocError> {
@@ -61,7 +61,7 @@ fn lines_told_to(
 /// `AllocError` if memory runs out.
 pub fn lines_told(
     alloc: Global,
-    scripts: &Scripts<Command>,
+    scripts: &Scripts,
     replies: &Replies,
 ) -> Result<Option<Vec<Vec<Told>>>, AllocError> {
     let mut callers = Vec::new(alloc);

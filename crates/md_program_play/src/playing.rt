@@ -14,7 +14,7 @@ ghost use Rattle.md_many.specs.Played.{IsToldOfEach};
 ghost use Rattle.md_store.specs.Store.{IsPassOf, all_lanes, front_in, start_of};
 ghost use Rattle.md_program_play.specs.Opened.{IsOpenFor};
 
-use md_book::{COMMAND_NODES, Command, LEVELS, MAPS};
+use md_book::{COMMAND_NODES, LEVELS, MAPS};
 use md_history::Contents;
 use md_many::Gate;
 use md_orders::{ScriptCommand, Scripts};
@@ -126,8 +126,9 @@ pub fn play_opened<C, R, G>(
     gate: &G,
 ) -> Result<OpenOutcome<Store, C::Reply>, AllocError>
 where
-    C: ScriptCommand,
-    C::Reply: PackedReply,
+    C: ScriptCommand + Send + Sync,
+    C::Reply: PackedReply + Send + Sync,
+    <C::Reply as PackedReply>::Head: Send,
     R: Threads + Sync,
     G: Gate + Sync,
     requires open_for { IsOpenFor C.book_rules (length scripts.now) opened.store opened.pass }
@@ -152,7 +153,7 @@ where
 pub fn play_on_store<R, G>(
     rt: &R,
     alloc: Global,
-    scripts: &Scripts<Command>,
+    scripts: &Scripts,
     nodes: u32,
     tries: u32,
     gate: &G,

@@ -11,7 +11,7 @@ use Rattle.md_report_replies.specs.Replies.{reply_at}
 use Rattle.md_report.specs.Report.{answer_text, lines_text}
 use Rattle.md_orders.proofs.ByCaller.{at_line-at, at_line-past}
 use Rattle.md_report.proofs.Texts.{texts_after-told}
-use Rattle.md_report_replies.proofs.Packing.{length-unpacked_all}
+use Rattle.md_report_replies.proofs.PackedLists.{length-unpacked_all}
 
 -- the reply at an index: its numbers begin behind those of the heads before it
 unpacked-at : {H R : Type 0} (packing : Packing H R) (hs : List H) (numbers : List ℕ) (at : ℕ) (d : H) → at < length hs

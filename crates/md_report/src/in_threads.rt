@@ -8,7 +8,7 @@ use crate::text::make_room;
 use crate::text::packed_lines::{callers_lines, lines};
 use crate::told::ToldReply;
 use md_orders::{ScriptCommand, Scripts};
-use md_report_replies::RepliesByCaller;
+use md_report_replies::{PackedReply, RepliesByCaller};
 use std::alloc::{AllocError, Global};
 use std::thread;
 use std::thread::Threads;
@@ -111,7 +111,7 @@ fn one_range<A: ToldReply>(
 
 // Lines of a caller, in at most so many ranges, by halves in threads.
 #[cycle(ranges)]
-fn lines_in_ranges<R: Threads + Sync, A: ToldReply>(
+fn lines_in_ranges<R: Threads + Sync, A: ToldReply + Sync>(
     rt: &R,
     alloc: Global,
     replies: &RepliesByCaller<A>,
@@ -119,6 +119,8 @@ fn lines_in_ranges<R: Threads + Sync, A: ToldReply>(
     span: Span,
     ranges: u32,
 ) -> Result<Vec<Vec<u8>>, AllocError>
+where
+    A::Head: Sync,
     requires { span.before + span.count < 2 ^ 32 }
     ensures { IfOk result (λ parts. whole_text parts.items
         ≡ lines_text A.text replies.now caller span.before span.count) }
@@ -130,13 +132,13 @@ fn lines_in_ranges<R: Threads + Sync, A: ToldReply>(
     let (earlier, later) = thread::join(
         rt,
         move || -> Result<Vec<Vec<u8>>, AllocError>
-            requires sync { IsSync R.row }
+            requires sync { IsSync R.row × IsSync A.row }
             requires few { low.before + low.count < 2 ^ 32 }
             ensures { IfOk result (λ parts. whole_text parts.items
                 ≡ lines_text A.text replies.entry.now caller low.before low.count) }
         { lines_in_ranges(rt, alloc, replies, caller, low, ranges / 2) },
         move || -> Result<Vec<Vec<u8>>, AllocError>
-            requires sync { IsSync R.row }
+            requires sync { IsSync R.row × IsSync A.row }
             requires few { high.before + high.count < 2 ^ 32 }
             ensures { IfOk result (λ parts. whole_text parts.items
                 ≡ lines_text A.text replies.entry.now caller high.before high.count) }
@@ -176,8 +178,9 @@ fn lines_of_callers<R, C>(
 ) -> Result<Vec<Vec<u8>>, AllocError>
 where
     R: Threads + Sync,
-    C: ScriptCommand,
-    C::Reply: ToldReply,
+    C: ScriptCommand + Sync,
+    C::Reply: ToldReply + Sync,
+    <C::Reply as PackedReply>::Head: Sync,
     requires { callers.before + callers.count < 2 ^ 32 }
     ensures { IfOk result (λ parts. whole_text parts.items
         ≡ callers_text_after C.Reply.text of.now replies.now callers.before callers.count) }
@@ -197,16 +200,18 @@ where
     let (first, second) = thread::join(
         rt,
         move || -> Result<Vec<Vec<u8>>, AllocError>
-            requires sync { IsSync R.row }
+            requires sync { IsSync R.row × IsSync C.row }
             requires few { low.before + low.count < 2 ^ 32 }
             ensures { IfOk result (λ parts. whole_text parts.items
-                ≡ callers_text_after C.Reply.text of.entry.now replies.entry.now low.before low.count) }
+                ≡ callers_text_after C.Reply.text of.entry.now replies.entry.now
+                low.before low.count) }
         { lines_of_callers(rt, alloc, of, replies, low, ranges / 2) },
         move || -> Result<Vec<Vec<u8>>, AllocError>
-            requires sync { IsSync R.row }
+            requires sync { IsSync R.row × IsSync C.row }
             requires few { high.before + high.count < 2 ^ 32 }
             ensures { IfOk result (λ parts. whole_text parts.items
-                ≡ callers_text_after C.Reply.text of.entry.now replies.entry.now high.before high.count) }
+                ≡ callers_text_after C.Reply.text of.entry.now replies.entry.now
+                high.before high.count) }
         { lines_of_callers(rt, alloc, of, replies, high, ranges / 2) },
     );
     joined(first, second)
@@ -215,8 +220,8 @@ where
 /// The lines of all callers in a report, as a text in parts: the parts are the text one after
 /// another. A line without a reply has no text. If `Replies` have the same replies of the order
 /// book, `report` writes the same lines first. The text that follows them is that of `after_lines`.
-/// Threads write up to eight ranges of the lines side by side, one part each: the lines of some callers, or a
-/// range of one caller's.
+/// Threads write up to eight ranges of the lines side by side, one part each: the lines of some
+/// callers, or a range of one caller's.
 ///
 /// The call takes the callers by halves in `thread::join`, and these halves again, up to three
 /// times over. If a half has one caller, the call takes the lines of that caller by halves instead.
@@ -233,8 +238,9 @@ pub fn lines_in_threads<R, C>(
 ) -> Result<Vec<Vec<u8>>, AllocError>
 where
     R: Threads + Sync,
-    C: ScriptCommand,
-    C::Reply: ToldReply,
+    C: ScriptCommand + Sync,
+    C::Reply: ToldReply + Sync,
+    <C::Reply as PackedReply>::Head: Sync,
     ensures { IfOk result (λ parts. whole_text parts.items
         ≡ replies_text C.Reply.text of.now replies.now) }
 {

@@ -66,7 +66,7 @@ fn quantity_filled(reply: &Option<BookReply>) -> u32
     }
 }
 
-fn line_totals(scripts: &Scripts<Command>, replies: &Replies, caller: u32, line: u32) -> Totals
+fn line_totals(scripts: &Scripts, replies: &Replies, caller: u32, line: u32) -> Totals
     ensures totals { result ≡ line_totals scripts.now replies.now.replies caller line }
     ensures small { AreAtMost (2 ^ 32) result }
 {
@@ -78,7 +78,7 @@ fn line_totals(scripts: &Scripts<Command>, replies: &Replies, caller: u32, line:
     }
 }
 
-fn script_totals(scripts: &Scripts<Command>, replies: &Replies, caller: u32) -> Totals
+fn script_totals(scripts: &Scripts, replies: &Replies, caller: u32) -> Totals
     ensures totals { result ≡ script_totals scripts.now replies.now.replies caller }
     ensures small { AreAtMost (2 ^ 64) result }
 {
@@ -90,7 +90,7 @@ fn script_totals(scripts: &Scripts<Command>, replies: &Replies, caller: u32) -> 
 }
 
 /// What the lines of scripts placed, cancelled and filled in all.
-pub(crate) fn all_totals(scripts: &Scripts<Command>, replies: &Replies) -> Totals
+pub(crate) fn all_totals(scripts: &Scripts, replies: &Replies) -> Totals
     ensures { result ≡ all_totals scripts.now replies.now.replies }
 {
     let mut all = NOTHING;

@@ -4,13 +4,9 @@ pub(crate) mod line_buffer;
 pub(crate) mod packed_lines;
 mod packed_reply;
 
-<<<<<<< HEAD
-ghost use Rattle.std.specs.Prelude.{◌≡◌, ◌++◌, ◌≤◌, ◌<◌, ◌+◌, ◌/◌, ◌%◌, ◌*◌, ◌^◌, List, Option};
+ghost use Rattle.std.specs.Prelude.{◌≡◌, ◌++◌, ◌≤◌, ◌<◌, ◌+◌, ◌/◌, ◌%◌, ◌*◌, ◌^◌, List, Option, ℕ};
 ghost use Rattle.std.specs.Prelude.{length, take, slice_index_or, flat_map, codes, decimal, OnOk};
 ghost use Rattle.std.specs.Prelude.{IfOk, IfSome};
-=======
-ghost use Rattle.std.specs.Prelude.{◌≡◌, ◌++◌, ◌≤◌, ◌<◌, ◌+◌, ◌/◌, ◌%◌, ◌*◌, ◌^◌, List, Option, ℕ, length, take, slice_index_or, flat_map, codes, decimal, OnOk, IfOk, IfSome};
->>>>>>> cc26ec1d (Draft: packed replies and reports of any kind of reply)
 ghost use Rattle.md_history.specs.State.{State};
 ghost use Rattle.md_book.specs.Book.{Book};
 ghost use Rattle.md_book.specs.Stands.{Shows, StandsFor};
@@ -30,7 +26,7 @@ ghost use Rattle.md_report.specs.Sums.{HaveSameSums};
 use crate::sums::{all_totals, open_at, sum_at};
 use crate::text::line_buffer::{DIGITS, LineBuffer};
 use itoa::{Buffer, Integer};
-use md_book::{BOUGHT, Command, DEPTHS, MAPS, MAX_ACCOUNT, MAX_PARTS, MAX_PRICE, Part, SOLD, Side};
+use md_book::{BOUGHT, DEPTHS, MAPS, MAX_ACCOUNT, MAX_PARTS, MAX_PRICE, Part, SOLD, Side};
 use md_history::Contents;
 use md_orders::{ScriptCommand, Scripts};
 use md_report_replies::{Head, Replies, number_at, part_in};
@@ -232,7 +228,7 @@ pub(crate) fn lines(
 /// Adds the lines of the `count` callers after the first `before`.
 pub(crate) fn callers_lines(
     out: &mut Vec<u8>,
-    of: &Scripts<Command>,
+    of: &Scripts,
     replies: &Replies,
     before: u32,
     count: u32,
@@ -339,7 +335,7 @@ pub(crate) fn after_replies(
 /// `AllocError` if memory runs out.
 pub fn report(
     alloc: Global,
-    of: &Scripts<Command>,
+    of: &Scripts,
     replies: &Replies,
     contents: &Contents,
 ) -> Result<Vec<u8>, AllocError>
@@ -396,7 +392,7 @@ pub fn after_lines<C: ScriptCommand>(
 /// It looks up each of the `LEVELS` levels once. `AllocError` if memory runs out.
 pub fn summary(
     alloc: Global,
-    of: &Scripts<Command>,
+    of: &Scripts,
     replies: &Replies,
     contents: &Contents,
 ) -> Result<Vec<u8>, AllocError>

@@ -1,6 +1,6 @@
 pub mod Apart
 pub mod PartNumbers
-pub mod Packing
+pub mod PackedLists
 pub mod Unpacked
 pub mod Placed
 pub mod Listed

@@ -4,14 +4,13 @@ ghost use Rattle.std.specs.Prelude.{◌≡◌, ◌<◌, ◌≤◌, ◌+◌, ◌^
 ghost use Rattle.md_report_replies.specs.Rooms.{unset_rooms_after};
 
 use crate::rooms::ReplyRooms;
-use md_book::Command;
 use md_orders::Scripts;
 use std::alloc::{AllocError, Global};
 
 /// The rooms of the `count` callers after the first `before`, with no reply.
 pub(crate) fn rooms_of_callers(
     alloc: Global,
-    scripts: &Scripts<Command>,
+    scripts: &Scripts,
     before: u32,
     count: u32,
 ) -> Result<Vec<ReplyRooms>, AllocError>

@@ -1,27 +1,15 @@
 //! Packing the replies of the order book.
 
-<<<<<<< HEAD
-ghost use Rattle.std.specs.Prelude.{◌≡◌, ◌≢◌, ◌↔◌, ◌==◌, ◌<◌, ◌≤◌, ◌+◌, ◌-◌, ◌*◌, ◌++◌, ◌∷◌, ◌^◌};
-ghost use Rattle.std.specs.Prelude.{ℕ, []};
-ghost use Rattle.std.specs.Prelude.{Some, All, map, min, length, take, drop, slice_index_or};
-ghost use Rattle.std.specs.Prelude.{vec_len, vec_capacity, OnOk, OnErr, IsTrue};
-ghost use Rattle.md_book.specs.declared.limits.TheConstants.{MAX_PARTS};
-ghost use Rattle.md_book.specs.Book.{padded};
-ghost use Rattle.md_book.specs.Suits.{IsPart};
-ghost use Rattle.md_report_replies.specs.declared.packed.TheConstants.{MAX_NUMBERS};
-ghost use Rattle.md_report_replies.specs.Packed.{IsPackable, no_part, size_of, numbers_of};
-ghost use Rattle.md_report_replies.specs.Packed.{parts_of, unpacked, unpacked_all, ArePacked};
-ghost use Rattle.md_report_replies.specs.Packed.{IsPacked, KeepsFew};
-=======
 ghost use Rattle.std.specs.Prelude.{◌≡◌, ◌≢◌, ◌↔◌, ◌<◌, ◌≤◌, ◌+◌, ◌-◌, ◌*◌, ◌++◌, ◌^◌};
-ghost use Rattle.std.specs.Prelude.{Some, All, map, min, length, take, drop, slice_index_or, vec_len, vec_capacity, IsTrue};
+ghost use Rattle.std.specs.Prelude.{Some, All, map, min, length, take, drop, slice_index_or};
+ghost use Rattle.std.specs.Prelude.{vec_len, vec_capacity, IsTrue};
 ghost use Rattle.md_book.specs.declared.limits.TheConstants.{MAX_PARTS};
 ghost use Rattle.md_book.specs.Book.{padded};
 ghost use Rattle.md_book.specs.Suits.{IsPart};
 ghost use Rattle.md_report_replies.specs.declared.packing.TheConstants.{MAX_NUMBERS};
-ghost use Rattle.md_report_replies.specs.Packed.{IsPackable, no_part, size_of, numbers_of, parts_of, unpacked, reply_packing, KeepsFew};
+ghost use Rattle.md_report_replies.specs.Packed.{IsPackable, no_part, size_of, numbers_of};
+ghost use Rattle.md_report_replies.specs.Packed.{parts_of, unpacked, reply_packing, KeepsFew};
 ghost use Rattle.md_report_replies.specs.Packing.{unpacked_all, ArePacked, IsPacked};
->>>>>>> cc26ec1d (Draft: packed replies and reports of any kind of reply)
 ghost use Rattle.md_report_replies.specs.Replies.{with_replies, SuitTheirLines};
 ghost use Rattle.md_report_replies.specs.Rooms.{FitsRoom, part_number, reply_in};
 
@@ -189,13 +177,6 @@ pub(crate) fn keep_packed(room: &mut [u64], head: PackedHead, numbers: &[u64]) -
     }
 }
 
-<<<<<<< HEAD
-// Sets the replies of a caller's lines after its first `done`, in order.
-fn set_each(replies: &mut Replies, caller: u32, done: u32, heads: &[PackedHead], numbers: &[u64])
-    requires packed { ArePacked heads.now numbers.now }
-    requires suit { SuitTheirLines replies.old.scripts caller done
-        (unpacked_all heads.now numbers.now) }
-=======
 /// Sets the replies of a caller's lines after its first `done`, in order, to those that heads and
 /// their numbers are.
 pub(crate) fn set_each(
@@ -208,7 +189,6 @@ pub(crate) fn set_each(
     requires packed { ArePacked reply_packing heads.now numbers.now }
     requires suit { SuitTheirLines replies.old.scripts caller done
         (unpacked_all reply_packing heads.now numbers.now) }
->>>>>>> cc26ec1d (Draft: packed replies and reports of any kind of reply)
     requires few { done + length heads.now < 2 ^ 32 }
     ensures { replies.new ≡ record replies.old {
       replies = with_replies replies.old.replies caller done
@@ -235,82 +215,7 @@ impl PackedReply for BookReply {
         size_of(head)
     }
 
-<<<<<<< HEAD
-    /// How many replies there are.
-    pub fn len(&self) -> usize
-        ensures { result ≡ length self.now }
-    {
-        self.heads.len()
-    }
-
-    /// Whether there is none.
-    pub fn is_empty(&self) -> bool
-        ensures { result ≡ (length self.now == 0) }
-    {
-        self.len() == 0
-    }
-
-    // Adds a reply at the end. If memory runs out, nothing changes.
-    fn push(&mut self, reply: &BookReply) -> Result<(), AllocError>
-        ensures ok { OnOk result (self.new ≡ self.old ++ reply.now ∷ []) }
-        ensures err { OnErr result (self.new ≡ self.old) }
-    {
-        self.heads.reserve(1)?;
-        self.numbers.reserve(MAX_NUMBERS)?;
-        let head = pack(&mut self.numbers, reply);
-        self.heads.push_reserved(head);
-        Ok(())
-    }
-
-    /// Appends replies, in order. `AllocError` if memory runs out; then only the first of them were
-    /// appended. It takes a fixed time for each reply, unless the list has to move to larger
-    /// memory.
-    pub fn append(&mut self, replies: &[BookReply]) -> Result<(), AllocError>
-        ensures ok { OnOk result (self.new ≡ self.old ++ replies.now) }
-        ensures err { OnErr result ((n : ℕ) × (self.new ≡ self.old ++ take n replies.now)) }
-    {
-        for reply in replies {
-            self.push(reply)?;
-        }
-        Ok(())
-    }
-
-    /// Appends the replies of another list. If memory runs out, nothing changes. An empty list
-    /// takes over the memory of the other one, and a list with replies copies them.
-    pub(crate) fn append_packed(&mut self, more: PackedReplies) -> Result<(), AllocError>
-        ensures ok { OnOk result (self.new ≡ self.old ++ more) }
-        ensures err { OnErr result (self.new ≡ self.old) }
-    {
-        if self.is_empty() {
-            *self = more;
-            return Ok(());
-        }
-        self.heads.reserve(more.heads.len())?;
-        self.numbers.extend_from_slice(&more.numbers)?;
-        self.heads.extend_from_slice(&more.heads)?;
-        Ok(())
-    }
-
-    /// The heads of the replies, and their numbers, which stand one after another.
-    pub(crate) fn told(&self) -> (&[PackedHead], &[u64])
-        ensures packed { ArePacked result.0.now result.1.now }
-        ensures replies { unpacked_all result.0.now result.1.now ≡ self.now }
-    {
-        (&self.heads, &self.numbers)
-    }
-
-    /// Sets the replies of a caller's lines after its first `done`, as `Replies::set_packed`.
-    pub(crate) fn set_in(&self, replies: &mut Replies, caller: u32, done: u32)
-        requires suit { SuitTheirLines replies.old.scripts caller done self.now }
-        requires few { done + length self.now < 2 ^ 32 }
-        ensures { replies.new ≡ record replies.old {
-          replies = with_replies replies.old.replies caller done self.now;
-        } }
-    {
-        set_each(replies, caller, done, &self.heads, &self.numbers);
-=======
     fn pack(&self, numbers: &mut Vec<u64>) -> PackedHead {
         pack(numbers, self)
->>>>>>> cc26ec1d (Draft: packed replies and reports of any kind of reply)
     }
 }

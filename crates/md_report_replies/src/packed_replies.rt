@@ -4,16 +4,17 @@ ghost use Rattle.std.specs.Prelude.{◌≡◌, ◌==◌, ◌++◌, ◌∷◌, �
 ghost use Rattle.md_report_replies.specs.Packing.{unpacked_all, ArePacked};
 
 use crate::packing::{MAX_NUMBERS, PackedReply};
+use md_book::BookReply;
 use std::alloc::{AllocError, Global};
 use std::marker::Model;
 
 /// Replies in a list, each in as many numbers as it has.
 ///
-/// A reply of the order book takes 8 bytes, and 8 more for each of its numbers: 1 for a depth, 2 for
-/// an account, and for a fill 1 and 2 more for each part up to the last that isn't zero. Contracts
-/// see the list.
+/// A reply of the order book takes 8 bytes, and 8 more for each of its numbers: 1 for a depth, 2
+/// for an account, and for a fill 1 and 2 more for each part up to the last that isn't zero.
+/// Contracts see the list.
 #[derive(Drop)]
-pub struct PackedReplies<R: PackedReply> {
+pub struct PackedReplies<R: PackedReply = BookReply> {
     heads: Vec<R::Head>,
     numbers: Vec<u64>,
 }
@@ -67,7 +68,8 @@ impl<R: PackedReply> PackedReplies<R> {
     }
 
     /// Appends replies, in order. `AllocError` if memory runs out; then only the first of them were
-    /// appended. It takes a fixed time for each reply, unless the list has to move to larger memory.
+    /// appended. It takes a fixed time for each reply, unless the list has to move to larger
+    /// memory.
     pub fn append(&mut self, replies: &[R]) -> Result<(), AllocError>
         ensures ok { OnOk result (self.new ≡ self.old ++ replies.now) }
         ensures err { OnErr result ((n : ℕ) × (self.new ≡ self.old ++ take n replies.now)) }
@@ -78,8 +80,8 @@ impl<R: PackedReply> PackedReplies<R> {
         Ok(())
     }
 
-    /// Appends the replies of another list. If memory runs out, nothing changes. An empty list takes
-    /// over the memory of the other one, and a list with replies copies them.
+    /// Appends the replies of another list. If memory runs out, nothing changes. An empty list
+    /// takes over the memory of the other one, and a list with replies copies them.
     pub(crate) fn append_packed(&mut self, more: PackedReplies<R>) -> Result<(), AllocError>
         ensures ok { OnOk result (self.new ≡ self.old ++ more) }
         ensures err { OnErr result (self.new ≡ self.old) }

@@ -12,7 +12,7 @@ use crate::all_rooms::rooms_of_callers;
 use crate::packed::set_each;
 use crate::packed_replies::PackedReplies;
 use crate::rooms::{Head, NewReply, ReplyRooms, reply_in};
-use md_book::{BookReply, Command};
+use md_book::BookReply;
 use md_orders::{Scripts, commands_are_named};
 use std::alloc::{AllocError, Global};
 use std::marker::Model;
@@ -25,7 +25,7 @@ use std::snapshot::Snapshot;
 /// fill or a kill 1 and as many as the places that it looks at.
 #[derive(Drop)]
 pub struct Replies {
-    of: Snapshot<Scripts<Command>>,
+    of: Snapshot<Scripts>,
     callers: Vec<ReplyRooms>,
 }
 
@@ -47,7 +47,7 @@ impl Model for Replies {
 }
 
 // The places of all lines of scripts, from the rooms of each caller, without a reply.
-fn with_rooms(scripts: &Scripts<Command>, callers: Vec<ReplyRooms>) -> Replies
+fn with_rooms(scripts: &Scripts, callers: Vec<ReplyRooms>) -> Replies
     requires { callers.items ≡ map unset_rooms scripts.now }
     ensures { result ≡ record { scripts = scripts.now; replies = no_replies scripts.now } }
 {
@@ -60,7 +60,7 @@ fn with_rooms(scripts: &Scripts<Command>, callers: Vec<ReplyRooms>) -> Replies
 
 impl Replies {
     /// The places of all lines of scripts, without a reply. `AllocError` if memory runs out.
-    pub fn empty(alloc: Global, scripts: &Scripts<Command>) -> Result<Replies, AllocError>
+    pub fn empty(alloc: Global, scripts: &Scripts) -> Result<Replies, AllocError>
         ensures { IfOk result (λ r. r
             ≡ record { scripts = scripts.now; replies = no_replies scripts.now }) }
     {
@@ -91,17 +91,10 @@ impl Replies {
         self.callers[caller as usize - 1].set(line as usize - 1, reply);
     }
 
-<<<<<<< HEAD
     /// Sets the replies of a caller's lines after its first `done`, in order. Each suits the
     /// command of its line, and the lines are numbered below 2^32. It takes no memory, and a fixed
     /// time for each reply.
     pub fn set_packed(&mut self, caller: u32, done: u32, replies: &PackedReplies)
-=======
-    /// Sets the replies of a caller's lines after its first `done`, in order. Each suits the command
-    /// of its line, and the lines are numbered below 2^32. It takes no memory, and a fixed time for
-    /// each reply.
-    pub fn set_packed(&mut self, caller: u32, done: u32, replies: &PackedReplies<BookReply>)
->>>>>>> cc26ec1d (Draft: packed replies and reports of any kind of reply)
         requires suit { SuitTheirLines self.old.scripts caller done replies.now }
         requires few { done + length replies.now < 2 ^ 32 }
         ensures { self.new ≡ record self.old {

@@ -1,17 +1,13 @@
 //! The replies of each caller's first lines, packed.
 
-<<<<<<< HEAD
 ghost use Rattle.std.specs.Prelude.{◌≡◌, ◌≤◌, ◌++◌, [], Some, map, length, replicate, IfOk, OnOk};
 ghost use Rattle.std.specs.Prelude.{OnErr};
-ghost use Rattle.md_report_replies.specs.Packed.{unpacked_all, ArePacked};
-=======
-ghost use Rattle.std.specs.Prelude.{◌≡◌, ◌≤◌, ◌++◌, [], Some, map, length, replicate, IfOk, OnOk, OnErr};
 ghost use Rattle.md_report_replies.specs.Packing.{unpacked_all, ArePacked};
->>>>>>> cc26ec1d (Draft: packed replies and reports of any kind of reply)
 ghost use Rattle.md_orders.specs.Scripts.{list_of, with_list};
 
 use crate::packed_replies::PackedReplies;
 use crate::packing::PackedReply;
+use md_book::BookReply;
 use std::alloc::{AllocError, Global};
 use std::marker::Model;
 
@@ -21,7 +17,7 @@ use std::marker::Model;
 ///
 /// A list takes memory only for the replies that it has, as much as `PackedReplies` takes.
 #[derive(Drop)]
-pub struct RepliesByCaller<R: PackedReply> {
+pub struct RepliesByCaller<R: PackedReply = BookReply> {
     callers: Vec<PackedReplies<R>>,
 }
 
@@ -75,15 +71,9 @@ impl<R: PackedReply> RepliesByCaller<R> {
     }
 
     /// Adds the replies of a caller's next lines, in order. There is such a caller. Its first
-<<<<<<< HEAD
     /// replies are taken over without a copy, and later ones are copied behind them. `AllocError`
     /// if memory runs out; then nothing changes.
-    pub fn add(&mut self, caller: u32, replies: PackedReplies) -> Result<(), AllocError>
-=======
-    /// replies are taken over without a copy, and later ones are copied behind them. `AllocError` if
-    /// memory runs out; then nothing changes.
     pub fn add(&mut self, caller: u32, replies: PackedReplies<R>) -> Result<(), AllocError>
->>>>>>> cc26ec1d (Draft: packed replies and reports of any kind of reply)
         requires from_1 { 1 ≤ caller }
         requires there { caller ≤ length self.old }
         ensures ok { OnOk result (self.new

@@ -15,7 +15,7 @@ use crate::kept::KeptReplies;
 use crate::kept_lists::KeptLists;
 use crate::laws::line_laws;
 use crate::order_lines::OrderLines;
-use md_book::Command;
+use md_book::BookReply;
 use md_history::{Contents, Engine, Front};
 use md_many::{Gate, OpenRounds, Play, Rounds, play_open_rounds, play_rounds};
 use md_orders::{ScriptCommand, Scripts};
@@ -36,7 +36,7 @@ pub struct Outcome<P> {
 /// What playing all scripts leaves before the engine is closed: the replies of the lines, packed,
 /// and the rounds, whose engine is still open.
 #[derive(Drop)]
-pub struct OpenOutcome<E: Engine, A: PackedReply> {
+pub struct OpenOutcome<E: Engine, A: PackedReply = BookReply> {
     pub replies: RepliesByCaller<A>,
     pub rounds: OpenRounds<E>,
 }
@@ -66,8 +66,9 @@ pub fn run_all_open<C, R, E, G>(
     gate: &G,
 ) -> Result<OpenOutcome<E, C::Reply>, AllocError>
 where
-    C: ScriptCommand,
-    C::Reply: PackedReply,
+    C: ScriptCommand + Send + Sync,
+    C::Reply: PackedReply + Send + Sync,
+    <C::Reply as PackedReply>::Head: Send,
     R: Threads + Sync,
     E: Engine,
     G: Gate + Sync,
@@ -108,7 +109,7 @@ pub fn run_all<R, E, G>(
     alloc: Global,
     engine: E,
     pass: E::Pass,
-    scripts: &Scripts<Command>,
+    scripts: &Scripts,
     tries: u32,
     gate: &G,
 ) -> Result<Outcome<E::Pass>, AllocError>

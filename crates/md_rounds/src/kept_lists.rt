@@ -1,6 +1,7 @@
 //! Keeping the replies of rounds in lists.
 
-ghost use Rattle.std.specs.Prelude.{◌≡◌, ◌≢◌, ◌≤◌, ◌<◌, ◌+◌, ◌++◌, ◌^◌, ℕ, List, Some, length, map, OnOk};
+ghost use Rattle.std.specs.Prelude.{◌≡◌, ◌≢◌, ◌≤◌, ◌<◌, ◌+◌, ◌++◌, ◌^◌, ℕ, List, Some, length, map};
+ghost use Rattle.std.specs.Prelude.{OnOk};
 ghost use Rattle.md_many.specs.Laws as many;
 ghost use Rattle.md_orders.specs.Scripts.{list_of};
 ghost use Rattle.md_rounds.specs.Kept.{all_of};

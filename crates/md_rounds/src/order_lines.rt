@@ -16,7 +16,10 @@ pub(crate) struct OrderLines<'a, C: ScriptCommand> {
     pub(crate) scripts: &'a Scripts<C>,
 }
 
-impl<C: ScriptCommand> Lines for OrderLines<'_, C> {
+impl<C: ScriptCommand + Sync> Lines for OrderLines<'_, C>
+where
+    C::Reply: Sync,
+{
     type B = C;
 
     ghost caller_count = { λ l. length l.scripts.now };
@@ -42,7 +45,10 @@ impl<C: ScriptCommand> Lines for OrderLines<'_, C> {
     ghost has_caller = { λ l caller other. no-lines l.scripts.now caller other };
 }
 
-impl<C: ScriptCommand> LawfulLines for OrderLines<'_, C> {
+impl<C: ScriptCommand + Sync> LawfulLines for OrderLines<'_, C>
+where
+    C::Reply: Sync,
+{
     ghost opening = { λ l. without_orders C.book_rules };
 
     ghost good = { λ l s tags. HasTraded C.book_rules l.scripts.now s tags };

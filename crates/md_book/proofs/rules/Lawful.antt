@@ -1,5 +1,5 @@
 -- The rules of the order book keep their laws.
-use Rattle.std.proofs.Common.{◌≡◌, refl, arith}
+use Rattle.std.proofs.Common.{refl, arith}
 use Rattle.md_book.specs.declared.limits.TheConstants.{MAX_SCRIPT_LINE}
 use Rattle.md_book.specs.OrderRules.{order_market}
 use Rattle.md_book.specs.Rules.{IsLawful}

@@ -7,7 +7,7 @@ ghost use Rattle.md_orders.specs.declared.generator.TheConstants.{MAX_MADE_CALLE
 
 use crate::tests::reports::{contents_of, reply_with, reported};
 use crate::tests::shown::{are_bytes, extend, read, same};
-use md_book::{BOUGHT, BookReply, Command, DEPTHS, MAX_PARTS, Part, SOLD, order_name};
+use md_book::{BOUGHT, BookReply, DEPTHS, MAX_PARTS, Part, SOLD, order_name};
 use md_orders::{Scripts, make};
 use md_report::{after_lines, lines_in_threads};
 use md_report_replies::{PackedReplies, RepliesByCaller};
@@ -16,11 +16,7 @@ use std::process::Abort;
 use std::thread::Threads;
 
 // Adds replies to those of a caller.
-fn add(
-    replies: &mut RepliesByCaller<BookReply>,
-    caller: u32,
-    packed: PackedReplies<BookReply>,
-) -> Result<(), AllocError>
+fn add(replies: &mut RepliesByCaller, caller: u32, packed: PackedReplies) -> Result<(), AllocError>
     requires from_1 { 1 ≤ caller }
     requires there { caller ≤ length replies.old }
     ensures { OnOk result (length replies.new ≡ length replies.old) }
@@ -30,7 +26,7 @@ fn add(
 }
 
 // Adds replies to those of a caller, and ends the program if memory runs out.
-fn must_add(rt: &impl Abort, replies: &mut RepliesByCaller<BookReply>, caller: u32, packed: PackedReplies<BookReply>)
+fn must_add(rt: &impl Abort, replies: &mut RepliesByCaller, caller: u32, packed: PackedReplies)
     requires from_1 { 1 ≤ caller }
     requires there { caller ≤ length replies.old }
     ensures { length replies.new ≡ length replies.old }
@@ -39,12 +35,12 @@ fn must_add(rt: &impl Abort, replies: &mut RepliesByCaller<BookReply>, caller: u
 }
 
 /// Adds replies at the end of packed ones.
-pub(super) fn append(rt: &impl Abort, packed: &mut PackedReplies<BookReply>, list: &[BookReply]) {
+pub(super) fn append(rt: &impl Abort, packed: &mut PackedReplies, list: &[BookReply]) {
     packed.append(list).expect(rt, "memory");
 }
 
 // Replies, packed.
-fn packed_of<R: Abort + AllocGlobal>(rt: &R, list: &[BookReply]) -> PackedReplies<BookReply> {
+fn packed_of<R: Abort + AllocGlobal>(rt: &R, list: &[BookReply]) -> PackedReplies {
     let mut packed = PackedReplies::new(rt.alloc());
     append(rt, &mut packed, list);
     packed
@@ -53,7 +49,7 @@ fn packed_of<R: Abort + AllocGlobal>(rt: &R, list: &[BookReply]) -> PackedReplie
 // Adds replies to those of a caller, or none.
 fn add_list<R: Abort + AllocGlobal>(
     rt: &R,
-    replies: &mut RepliesByCaller<BookReply>,
+    replies: &mut RepliesByCaller,
     caller: u32,
     list: &[BookReply],
 )
@@ -67,8 +63,8 @@ fn add_list<R: Abort + AllocGlobal>(
 // Adds the reply that `set_all` sets at a line.
 fn append_line(
     rt: &impl Abort,
-    packed: &mut PackedReplies<BookReply>,
-    scripts: &Scripts<Command>,
+    packed: &mut PackedReplies,
+    scripts: &Scripts,
     caller: u32,
     line: u32,
 ) {
@@ -81,10 +77,10 @@ fn append_line(
 // The replies that `set_all` sets, of a caller's lines from one index to another, packed.
 fn packed_from<R: Abort + AllocGlobal>(
     rt: &R,
-    scripts: &Scripts<Command>,
+    scripts: &Scripts,
     caller: u32,
     (from, to): (u32, u32),
-) -> PackedReplies<BookReply> {
+) -> PackedReplies {
     let mut packed = PackedReplies::new(rt.alloc());
     for before in from..to {
         append_line(rt, &mut packed, scripts, caller, before + 1);
@@ -95,8 +91,8 @@ fn packed_from<R: Abort + AllocGlobal>(
 // Adds the replies that `set_all` sets, of a caller's lines from one index to another.
 fn add_lines<R: Abort + AllocGlobal>(
     rt: &R,
-    replies: &mut RepliesByCaller<BookReply>,
-    scripts: &Scripts<Command>,
+    replies: &mut RepliesByCaller,
+    scripts: &Scripts,
     caller: u32,
     range: (u32, u32),
 )
@@ -110,8 +106,8 @@ fn add_lines<R: Abort + AllocGlobal>(
 // Adds the replies that `set_all` sets of a caller, in three pieces.
 fn add_pieces<R: Abort + AllocGlobal>(
     rt: &R,
-    replies: &mut RepliesByCaller<BookReply>,
-    scripts: &Scripts<Command>,
+    replies: &mut RepliesByCaller,
+    scripts: &Scripts,
     caller: u32,
 )
     requires from_1 { 1 ≤ caller }
@@ -125,10 +121,7 @@ fn add_pieces<R: Abort + AllocGlobal>(
 }
 
 // The replies that `set_all` sets, added in three pieces a caller.
-fn packed_all<R: Abort + AllocGlobal>(
-    rt: &R,
-    scripts: &Scripts<Command>,
-) -> RepliesByCaller<BookReply> {
+fn packed_all<R: Abort + AllocGlobal>(rt: &R, scripts: &Scripts) -> RepliesByCaller {
     let mut replies = RepliesByCaller::empty(rt.alloc(), scripts.callers()).expect(rt, "memory");
     'callers: for before in 0..scripts.callers() {
         add_pieces(rt, &mut replies, scripts, before + 1);
@@ -148,8 +141,8 @@ fn whole<R: Abort + AllocGlobal>(rt: &R, parts: &[Vec<u8>]) -> Vec<u8> {
 // The parts that threads write of replies.
 fn parts_of<R: Threads + Sync + Abort + AllocGlobal>(
     rt: &R,
-    scripts: &Scripts<Command>,
-    replies: &RepliesByCaller<BookReply>,
+    scripts: &Scripts,
+    replies: &RepliesByCaller,
 ) -> Vec<Vec<u8>> {
     lines_in_threads(rt, rt.alloc(), scripts, replies).expect(rt, "memory")
 }
@@ -157,18 +150,15 @@ fn parts_of<R: Threads + Sync + Abort + AllocGlobal>(
 // The number of parts that threads write of replies, and their text.
 fn in_parts<R: Threads + Sync + Abort + AllocGlobal>(
     rt: &R,
-    scripts: &Scripts<Command>,
-    replies: &RepliesByCaller<BookReply>,
+    scripts: &Scripts,
+    replies: &RepliesByCaller,
 ) -> (usize, Vec<u8>) {
     let parts = parts_of(rt, scripts, replies);
     (parts.len(), whole(rt, &parts))
 }
 
 // Replies of one caller.
-fn of_one<R: Abort + AllocGlobal>(
-    rt: &R,
-    packed: PackedReplies<BookReply>,
-) -> RepliesByCaller<BookReply> {
+fn of_one<R: Abort + AllocGlobal>(rt: &R, packed: PackedReplies) -> RepliesByCaller {
     let mut replies = RepliesByCaller::empty(rt.alloc(), 1).expect(rt, "memory");
     must_add(rt, &mut replies, 1, packed);
     replies
@@ -179,7 +169,7 @@ fn lines_of<R: Threads + Sync + Abort + AllocGlobal>(
     rt: &R,
     orders: &[u8],
     callers: u32,
-    replies: &RepliesByCaller<BookReply>,
+    replies: &RepliesByCaller,
 ) -> Vec<u8>
     requires { (1 ≤ callers) × (callers ≤ MAX_CALLER) }
 {
@@ -190,7 +180,7 @@ fn lines_of<R: Threads + Sync + Abort + AllocGlobal>(
 pub(super) fn told<R: Threads + Sync + Abort + AllocGlobal>(
     rt: &R,
     orders: &[u8],
-    packed: PackedReplies<BookReply>,
+    packed: PackedReplies,
 ) -> Vec<u8> {
     lines_of(rt, orders, 1, &of_one(rt, packed))
 }
@@ -198,7 +188,7 @@ pub(super) fn told<R: Threads + Sync + Abort + AllocGlobal>(
 // What follows the lines.
 fn end_of<R: Abort + AllocGlobal>(
     rt: &R,
-    scripts: &Scripts<Command>,
+    scripts: &Scripts,
     values: &[(u32, u64, u64)],
 ) -> Vec<u8> {
     let contents = contents_of(rt, values);
@@ -209,7 +199,7 @@ fn end_of<R: Abort + AllocGlobal>(
 // parts and of what follows the lines.
 fn written<R: Threads + Sync + Abort + AllocGlobal>(
     rt: &R,
-    scripts: &Scripts<Command>,
+    scripts: &Scripts,
     values: &[(u32, u64, u64)],
 ) -> (usize, Vec<u8>) {
     let (parts, mut text) = in_parts(rt, scripts, &packed_all(rt, scripts));
@@ -225,7 +215,7 @@ fn is_written(rt: &impl Abort, found: (usize, &[u8]), want: (usize, &[u8]), call
 // Threads write the report of scripts in so many parts.
 fn is_written_alike<R: Threads + Sync + Abort + AllocGlobal>(
     rt: &R,
-    scripts: &Scripts<Command>,
+    scripts: &Scripts,
     count: usize,
 ) {
     let values = [(DEPTHS, 1_999, 7), (BOUGHT, 5, 3), (SOLD, 9_999, 2)].as_slice();
@@ -278,7 +268,7 @@ fn fill() -> BookReply {
 }
 
 // Adds four lists to those of the second caller.
-fn add_lists<R: Abort + AllocGlobal>(rt: &R, replies: &mut RepliesByCaller<BookReply>)
+fn add_lists<R: Abort + AllocGlobal>(rt: &R, replies: &mut RepliesByCaller)
     requires { 2 ≤ length replies.old }
 {
     add_list(rt, replies, 2, &[]);
@@ -288,7 +278,7 @@ fn add_lists<R: Abort + AllocGlobal>(rt: &R, replies: &mut RepliesByCaller<BookR
 }
 
 // Replies of three callers, of which the second alone has some.
-fn replies_of_the_second<R: Abort + AllocGlobal>(rt: &R) -> RepliesByCaller<BookReply> {
+fn replies_of_the_second<R: Abort + AllocGlobal>(rt: &R) -> RepliesByCaller {
     let mut replies = RepliesByCaller::empty(rt.alloc(), 3).expect(rt, "memory");
     add_lists(rt, &mut replies);
     replies
@@ -303,7 +293,7 @@ fn lines_without_a_reply_have_no_text(rt: HostRuntime) {
 }
 
 // As many looks at a level, each with its number from 0 on as the depth.
-fn depths<R: Abort + AllocGlobal>(rt: &R, count: u32) -> PackedReplies<BookReply> {
+fn depths<R: Abort + AllocGlobal>(rt: &R, count: u32) -> PackedReplies {
     let mut packed = PackedReplies::new(rt.alloc());
     for depth in 0..count {
         append(rt, &mut packed, &[BookReply::Depth(u64::from(depth))]);

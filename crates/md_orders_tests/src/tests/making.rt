@@ -6,7 +6,7 @@ use md_orders::{Maker, Scripts, make, read_orders};
 use std::process::Abort;
 
 // Three lines were made, and there is none before them and none behind.
-fn has_three_lines(rt: &impl Abort, made: &Scripts<Command>) {
+fn has_three_lines(rt: &impl Abort, made: &Scripts) {
     let others = [made.command(1, 0).is_none(), made.command(1, 4).is_none()];
     same(rt, &(made.total(), others), &(3, [true; 2]));
 }
@@ -23,7 +23,7 @@ fn made_scripts_are_those_of_a_file(rt: HostRuntime) {
 }
 
 // A caller and a line, and whether scripts have the command there.
-fn in_scripts(scripts: &Scripts<Command>, made: (u32, u32, Command)) -> (u32, u32, bool) {
+fn in_scripts(scripts: &Scripts, made: (u32, u32, Command)) -> (u32, u32, bool) {
     let (caller, line, command) = made;
     (caller, line, scripts.command(caller, line) == Some(command))
 }
@@ -41,7 +41,7 @@ fn commands_are_made_in_turn(rt: HostRuntime) {
 }
 
 // The order that a line of the first caller cancels.
-fn cancelled(scripts: &Scripts<Command>, line: u32) -> Option<u64> {
+fn cancelled(scripts: &Scripts, line: u32) -> Option<u64> {
     match scripts.command(1, line) {
         Some(Command::Cancel { name }) => Some(name),
         _ => None,
@@ -49,20 +49,14 @@ fn cancelled(scripts: &Scripts<Command>, line: u32) -> Option<u64> {
 }
 
 // The line cancels the order of another line.
-fn is_cancel(rt: &impl Abort, made: &Scripts<Command>, line: u32, of: u32) {
+fn is_cancel(rt: &impl Abort, made: &Scripts, line: u32, of: u32) {
     let want = (line, Some(order_name(1, of)));
     same(rt, &(line, cancelled(made, line)), &want);
 }
 
-<<<<<<< HEAD
 // A cancel at a line after 32,767 shows a draw as it is: it names the order of the line whose
 // number is one more.
 fn has_draws(rt: &impl Abort, made: &Scripts) {
-=======
-// A cancel at a line after 32,767 shows a draw as it is: it names the order of the line whose number
-// is one more.
-fn has_draws(rt: &impl Abort, made: &Scripts<Command>) {
->>>>>>> a53120de (Draft: order files of any kind of command)
     is_cancel(rt, made, 32_770, 10_467);
     is_cancel(rt, made, 32_771, 24_770);
     is_cancel(rt, made, 32_786, 27_376);

@@ -28,7 +28,7 @@ fn parts(first: Part, second: Part, third: Part, last: Part) -> [Part; MAX_PARTS
 // Adds a fill and a reply of another kind. Behind them nothing is added, which changes nothing.
 fn add_pair(
     rt: &impl Abort,
-    packed: &mut PackedReplies<BookReply>,
+    packed: &mut PackedReplies,
     count: u8,
     parts: &[Part; MAX_PARTS],
     other: &BookReply,
@@ -47,7 +47,7 @@ fn add_pair(
 fn packed_pairs<R: Abort + AllocGlobal>(
     rt: &R,
     pairs: &[(u8, [Part; MAX_PARTS], BookReply)],
-) -> PackedReplies<BookReply> {
+) -> PackedReplies {
     let mut packed = PackedReplies::new(rt.alloc());
     for (count, parts, other) in pairs {
         add_pair(rt, &mut packed, *count, parts, other);
@@ -57,7 +57,7 @@ fn packed_pairs<R: Abort + AllocGlobal>(
 
 // Two replies for each fill: the fill, and one of another kind. The fills have no part, parts that
 // the count leaves out, and twelve parts.
-fn all_packed<R: Abort + AllocGlobal>(rt: &R) -> PackedReplies<BookReply> {
+fn all_packed<R: Abort + AllocGlobal>(rt: &R) -> PackedReplies {
     let none = [NONE; MAX_PARTS];
     let gap = parts(MOST, NONE, UNNAMED, NONE);
     let two = parts(EMPTY, MOST, NONE, NONE);
@@ -87,7 +87,7 @@ fn all_packed<R: Abort + AllocGlobal>(rt: &R) -> PackedReplies<BookReply> {
 #[test]
 fn each_reply_is_told_as_it_was(rt: HostRuntime) {
     let packed = all_packed(&rt);
-    let lengths = (PackedReplies::<BookReply>::new(rt.alloc()).is_empty(), packed.len());
+    let lengths = (PackedReplies::new(rt.alloc()).is_empty(), packed.len());
     let orders = b"1,A,7\n1,A,7\n1,A,7\n1,A,7\n1,A,7\n1,A,7\n1,A,7\n1,A,7\n1,A,7\n\
         1,A,7\n1,A,7\n1,A,7\n1,A,7\n1,A,7\n1,A,7\n1,A,7\n1,A,7\n1,A,7\n"
         .as_slice();

@@ -6,7 +6,6 @@ ghost use Rattle.md_report_replies.specs.Replies.{SuitTheirLines};
 
 use crate::tests::reports::{reply_with, set_lines};
 use crate::tests::shown::{read, same};
-use md_book::{BookReply, Command};
 use md_orders::Scripts;
 use md_report_replies::{PackedReplies, Replies};
 use std::alloc::{AllocGlobal, Global};
@@ -16,11 +15,11 @@ use std::test::Fail;
 // A reply that suits each line of a caller after its first `done`.
 fn packed_lines(
     alloc: Global,
-    scripts: &Scripts<Command>,
+    scripts: &Scripts,
     caller: u32,
     done: u32,
     count: u8,
-) -> Result<PackedReplies<BookReply>, Fail>
+) -> Result<PackedReplies, Fail>
     requires { done ≤ length (list_of scripts.now caller) }
     ensures suit { IfOk result (SuitTheirLines scripts.now caller done) }
     ensures few { IfOk result (λ packed. done + length packed < 2 ^ 32) }
@@ -36,24 +35,14 @@ fn packed_lines(
 }
 
 // Replies of the second caller's lines after its first `done`, set one by one.
-fn set_plain(
-    alloc: Global,
-    scripts: &Scripts<Command>,
-    done: u32,
-    count: u8,
-) -> Result<Replies, Fail> {
+fn set_plain(alloc: Global, scripts: &Scripts, done: u32, count: u8) -> Result<Replies, Fail> {
     let mut replies = Replies::empty(alloc, scripts)?;
     set_lines(&mut replies, scripts, 2, done.saturating_add(1), count);
     Ok(replies)
 }
 
 // The same replies, packed and set at once.
-fn set_packed(
-    alloc: Global,
-    scripts: &Scripts<Command>,
-    done: u32,
-    count: u8,
-) -> Result<Replies, Fail> {
+fn set_packed(alloc: Global, scripts: &Scripts, done: u32, count: u8) -> Result<Replies, Fail> {
     if scripts.len(2) < done {
         return Err(Fail::new("too few lines"));
     }
@@ -74,7 +63,7 @@ fn has_same_replies(rt: &impl Abort, replies: &Replies, plain: &Replies) {
 // The second caller's replies after its first `done` are the same, set either way.
 fn are_those_set<R: Abort + AllocGlobal>(
     rt: &R,
-    scripts: &Scripts<Command>,
+    scripts: &Scripts,
     done: u32,
     count: u8,
 ) -> Result<(), Fail> {

@@ -99,7 +99,7 @@ fn the_first_record_that_breaks_the_grammar_is_told(rt: HostRuntime) {
         3,D,B,1=BadLine(1)|\
         1,P,7,S,100,5\n\n1,P,7,X,100,5\n1,D,Y,1\n=BadLine(2)";
     read_as_told(&rt, 2, files);
-    is_bad_line(&rt, read_orders(rt.alloc(), b"1,\xff,S,100", 2).err(), 1);
+    is_bad_line(&rt, read_orders::<Command>(rt.alloc(), b"1,\xff,S,100", 2).err(), 1);
 }
 
 #[test]
@@ -165,7 +165,7 @@ fn callers_are_within_the_version(rt: HostRuntime) {
 }
 
 // How many lines were read, or the fault.
-fn total(read: Result<Scripts<Command>, OrderFault>) -> Result<u32, OrderFault> {
+fn total(read: Result<Scripts, OrderFault>) -> Result<u32, OrderFault> {
     match read {
         Ok(scripts) => Ok(scripts.total()),
         Err(fault) => Err(fault),
@@ -230,7 +230,7 @@ fn a_million_records_are_read_and_no_more(rt: HostRuntime) {
 // The caller's line has this command.
 fn has_command(
     rt: &impl Abort,
-    scripts: &Scripts<Command>,
+    scripts: &Scripts,
     (caller, line): (u32, u32),
     command: &Option<Command>,
 ) {
@@ -238,7 +238,7 @@ fn has_command(
 }
 
 // There are these numbers of callers and lines.
-fn has_counts(rt: &impl Abort, scripts: &Scripts<Command>) {
+fn has_counts(rt: &impl Abort, scripts: &Scripts) {
     let counts = [
         scripts.callers(),
         scripts.total(),
@@ -252,7 +252,7 @@ fn has_counts(rt: &impl Abort, scripts: &Scripts<Command>) {
 }
 
 // The second caller's second line has its command, and no line that isn't there has one.
-fn has_commands(rt: &impl Abort, scripts: &Scripts<Command>) {
+fn has_commands(rt: &impl Abort, scripts: &Scripts) {
     let second = Command::Depth {
         side: Side::Sell,
         price: 4,

@@ -5,6 +5,7 @@ ghost use Rattle.std.specs.Prelude.{◌≤◌};
 ghost use Rattle.md_book.specs.declared.limits.TheConstants.{MAX_CALLER};
 
 use crate::tests::shown::{are_alike, extend, is_bad_line, is_text, shown};
+use md_book::Command;
 use md_orders::{read_orders, read_orders_in_threads};
 use std::alloc::AllocGlobal;
 use std::process::Abort;
@@ -123,7 +124,7 @@ fn has_bad_line<R: Threads + Sync + Abort + AllocGlobal>(
     let text = bad_from(rt, start, bad);
     is_bad_line(
         rt,
-        read_orders_in_threads(rt, rt.alloc(), &text, 1).err(),
+        read_orders_in_threads::<R, Command>(rt, rt.alloc(), &text, 1).err(),
         number,
     );
 }

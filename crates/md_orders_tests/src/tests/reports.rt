@@ -131,7 +131,7 @@ pub(crate) fn reply_with(command: Command, count: u8) -> BookReply
 // Sets such a reply at each line of a caller from a first one on.
 pub(crate) fn set_lines(
     replies: &mut Replies,
-    scripts: &Scripts<Command>,
+    scripts: &Scripts,
     caller: u32,
     first: u32,
     count: u8,
@@ -149,7 +149,7 @@ pub(crate) fn set_lines(
 }
 
 // Sets such a reply at each line of each caller.
-pub(crate) fn set_all(replies: &mut Replies, scripts: &Scripts<Command>, count: u8)
+pub(crate) fn set_all(replies: &mut Replies, scripts: &Scripts, count: u8)
     requires { replies.old.scripts ≡ scripts.now }
     ensures { replies.new.scripts ≡ scripts.now }
 {
@@ -159,7 +159,7 @@ pub(crate) fn set_all(replies: &mut Replies, scripts: &Scripts<Command>, count: 
 }
 
 // Such a reply at each line of each caller.
-fn replies_of<R: Abort + AllocGlobal>(rt: &R, scripts: &Scripts<Command>, count: u8) -> Replies {
+fn replies_of<R: Abort + AllocGlobal>(rt: &R, scripts: &Scripts, count: u8) -> Replies {
     let mut replies = Replies::empty(rt.alloc(), scripts).expect(rt, "memory");
     set_all(&mut replies, scripts, count);
     replies
@@ -168,7 +168,7 @@ fn replies_of<R: Abort + AllocGlobal>(rt: &R, scripts: &Scripts<Command>, count:
 // The report of scripts with replies and these values.
 fn report_of<R: Abort + AllocGlobal>(
     rt: &R,
-    scripts: &Scripts<Command>,
+    scripts: &Scripts,
     replies: &Replies,
     values: &[(u32, u64, u64)],
 ) -> Vec<u8> {
@@ -179,7 +179,7 @@ fn report_of<R: Abort + AllocGlobal>(
 // The summary of them.
 fn summary_of<R: Abort + AllocGlobal>(
     rt: &R,
-    scripts: &Scripts<Command>,
+    scripts: &Scripts,
     replies: &Replies,
     values: &[(u32, u64, u64)],
 ) -> Vec<u8> {
@@ -190,7 +190,7 @@ fn summary_of<R: Abort + AllocGlobal>(
 // The report of scripts with such replies and these values.
 pub(crate) fn reported<R: Abort + AllocGlobal>(
     rt: &R,
-    scripts: &Scripts<Command>,
+    scripts: &Scripts,
     count: u8,
     values: &[(u32, u64, u64)],
 ) -> Vec<u8> {
@@ -198,10 +198,7 @@ pub(crate) fn reported<R: Abort + AllocGlobal>(
 }
 
 // The replies of scripts of two callers, with one at each line of the second caller but its first.
-fn told_from_the_second_line<R: Abort + AllocGlobal>(
-    rt: &R,
-    scripts: &Scripts<Command>,
-) -> Replies {
+fn told_from_the_second_line<R: Abort + AllocGlobal>(rt: &R, scripts: &Scripts) -> Replies {
     let mut replies = Replies::empty(rt.alloc(), scripts).expect(rt, "memory");
     set_lines(&mut replies, scripts, 2, 2, u8::MAX);
     replies
@@ -234,7 +231,7 @@ fn has_seven<R: Abort + AllocGlobal>(rt: &R, replies: &Replies) {
 // The report, the sign `|`, and the summary.
 fn report_and_summary<R: Abort + AllocGlobal>(
     rt: &R,
-    scripts: &Scripts<Command>,
+    scripts: &Scripts,
     replies: &Replies,
     values: &[(u32, u64, u64)],
 ) -> Vec<u8> {
@@ -245,11 +242,7 @@ fn report_and_summary<R: Abort + AllocGlobal>(
 }
 
 // The report and the summary are these.
-fn has_report_and_summary<R: Abort + AllocGlobal>(
-    rt: &R,
-    scripts: &Scripts<Command>,
-    replies: &Replies,
-) {
+fn has_report_and_summary<R: Abort + AllocGlobal>(rt: &R, scripts: &Scripts, replies: &Replies) {
     let values = [
         (DEPTHS, 1_999, 7),
         (DEPTHS, 1_000, 6),

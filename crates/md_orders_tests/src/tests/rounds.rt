@@ -3,7 +3,7 @@
 ghost use Rattle.std.specs.Prelude.{◌≡◌, ◌≤◌, length, IfOk};
 
 use crate::tests::shown::same;
-use md_book::{BookReply, Command, DEPTHS, LEVELS, MAPS, MAX_PARTS, Part, order_name};
+use md_book::{BookReply, DEPTHS, LEVELS, MAPS, MAX_PARTS, Part, order_name};
 use md_history::{Contents, PlainPass, PlainStore};
 use md_orders::{Scripts, read_orders};
 use md_report::summary;
@@ -16,7 +16,7 @@ use std::test::Fail;
 use std::thread::Threads;
 
 // The script of one caller.
-fn script_of(alloc: Global, text: &str) -> Result<Scripts<Command>, Fail>
+fn script_of(alloc: Global, text: &str) -> Result<Scripts, Fail>
     ensures { IfOk result (λ scripts. length scripts ≡ 1) }
 {
     match read_orders(alloc, text.as_bytes(), 1) {
@@ -29,7 +29,7 @@ fn script_of(alloc: Global, text: &str) -> Result<Scripts<Command>, Fail>
 fn play_script(
     rt: &(impl Threads + Sync),
     alloc: Global,
-    scripts: &Scripts<Command>,
+    scripts: &Scripts,
 ) -> Result<Outcome<PlainPass>, AllocError>
     requires { length scripts.now ≡ 1 }
     ensures { IfOk result (λ played. MAPS ≤ length played.contents.maps) }
@@ -52,7 +52,7 @@ fn one_caller(rt: HostRuntime) -> Result<(), Fail> {
 
 // An order, a fill of a part, a kill that finds too little, one that finds enough, a cancel of what
 // is left, and two looks; so many times, one after another.
-fn cycles(alloc: Global, count: u32) -> Result<Scripts<Command>, Fail>
+fn cycles(alloc: Global, count: u32) -> Result<Scripts, Fail>
     ensures { IfOk result (λ scripts. length scripts ≡ 1) }
 {
     let mut text = String::new(alloc);

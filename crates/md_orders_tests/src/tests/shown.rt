@@ -3,7 +3,6 @@
 ghost use Rattle.std.specs.Prelude.{◌≤◌};
 ghost use Rattle.md_book.specs.declared.limits.TheConstants.{MAX_CALLER};
 
-use md_book::Command;
 use md_orders::{OrderFault, Scripts, read_orders};
 use std::alloc::AllocGlobal;
 use std::fmt::Debug;
@@ -35,20 +34,14 @@ pub(super) fn is_bad_line(rt: &impl Abort, fault: Option<OrderFault>, number: u3
 }
 
 // Adds the command of a line, if there is one, behind its caller and its line.
-fn add_command(
-    rt: &impl Abort,
-    text: &mut String,
-    scripts: &Scripts<Command>,
-    caller: u32,
-    line: u32,
-) {
+fn add_command(rt: &impl Abort, text: &mut String, scripts: &Scripts, caller: u32, line: u32) {
     if let Some(command) = scripts.command(caller, line) {
         write!(text, "{caller}:{line} {command:?};").expect(rt, "memory");
     }
 }
 
 // Adds the commands of all callers.
-fn add_commands(rt: &impl Abort, text: &mut String, scripts: &Scripts<Command>) {
+fn add_commands(rt: &impl Abort, text: &mut String, scripts: &Scripts) {
     for before in 0..scripts.callers() {
         for earlier in 0..scripts.len(before + 1) {
             add_command(rt, text, scripts, before + 1, earlier + 1);
@@ -57,7 +50,7 @@ fn add_commands(rt: &impl Abort, text: &mut String, scripts: &Scripts<Command>) 
 }
 
 /// The commands of a file that is right.
-pub(super) fn read<R: Abort + AllocGlobal>(rt: &R, orders: &[u8], callers: u32) -> Scripts<Command>
+pub(super) fn read<R: Abort + AllocGlobal>(rt: &R, orders: &[u8], callers: u32) -> Scripts
     requires { (1 ≤ callers) × (callers ≤ MAX_CALLER) }
 {
     match read_orders(rt.alloc(), orders, callers) {
@@ -67,10 +60,7 @@ pub(super) fn read<R: Abort + AllocGlobal>(rt: &R, orders: &[u8], callers: u32) 
 }
 
 /// The commands of all callers, each behind its caller and its line, or the fault.
-pub(super) fn shown<R: Abort + AllocGlobal>(
-    rt: &R,
-    read: Result<Scripts<Command>, OrderFault>,
-) -> String {
+pub(super) fn shown<R: Abort + AllocGlobal>(rt: &R, read: Result<Scripts, OrderFault>) -> String {
     let mut text = String::new(rt.alloc());
     match read {
         Ok(scripts) => add_commands(rt, &mut text, &scripts),
@@ -82,8 +72,8 @@ pub(super) fn shown<R: Abort + AllocGlobal>(
 /// Two files, or two readings of one, give the same commands or the same fault.
 pub(super) fn are_alike<R: Abort + AllocGlobal>(
     rt: &R,
-    one: Result<Scripts<Command>, OrderFault>,
-    other: Result<Scripts<Command>, OrderFault>,
+    one: Result<Scripts, OrderFault>,
+    other: Result<Scripts, OrderFault>,
 ) {
     let text = shown(rt, one);
     is_text(rt, text.as_str(), shown(rt, other).as_str());

@@ -44,7 +44,7 @@ impl Sums {
 // turns.
 fn sums_in_turn(
     alloc: Global,
-    scripts: &Scripts<Command>,
+    scripts: &Scripts,
     lines: u32,
     callers: u32,
 ) -> Result<Sums, AllocError>

@@ -3,7 +3,7 @@
 ghost use Rattle.std.specs.Prelude.{◌≡◌, ◌≤◌, length, IfOk};
 
 use crate::tests::{repeated, same};
-use md_book::{BookReply, Command};
+use md_book::BookReply;
 use md_many::FreeGate;
 use md_orders::{Scripts, make, read_orders};
 use md_program_play::play_on_store;
@@ -17,7 +17,7 @@ use std::thread::Threads;
 mod closing;
 
 // The scripts of two callers.
-fn scripts_of(alloc: Global, text: &[u8]) -> Result<Scripts<Command>, Fail>
+fn scripts_of(alloc: Global, text: &[u8]) -> Result<Scripts, Fail>
     ensures { IfOk result (λ scripts. length scripts ≡ 2) }
 {
     match read_orders(alloc, text, 2) {
@@ -67,7 +67,7 @@ fn expect_hundred<R: Abort, P>(rt: &R, played: &Outcome<P>) {
 }
 
 // The scripts of two callers, of whom one has a hundred lines.
-fn scripts_of_one(alloc: Global) -> Result<Scripts<Command>, Fail>
+fn scripts_of_one(alloc: Global) -> Result<Scripts, Fail>
     ensures { IfOk result (λ scripts. length scripts ≡ 2) }
 {
     let text = repeated(alloc, b"2,P,7,S,100,5\n", 100, b"")?;

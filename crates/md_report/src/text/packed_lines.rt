@@ -1,19 +1,7 @@
 //! The lines of callers whose replies are packed.
 
-<<<<<<< HEAD
-ghost use Rattle.std.specs.Prelude.{◌≡◌, ◌++◌, ◌≤◌, ◌<◌, ◌+◌, ◌/◌, ◌%◌, ◌^◌, length, take, drop};
-ghost use Rattle.std.specs.Prelude.{min, slice_index_or, sum_by, flat_map, OnOk};
-ghost use Rattle.md_book.specs.Book.{padded};
-ghost use Rattle.md_book.specs.declared.limits.TheConstants.{MAX_PARTS};
-ghost use Rattle.md_report_replies.specs.Packed.{size_of, parts_of, unpacked};
-ghost use Rattle.md_report.specs.Report.{part_text, filled_text, reply_text, line_text, lines_text};
-ghost use Rattle.md_report.specs.Report.{callers_text_after};
-ghost use Rattle.md_report.specs.declared.text.TheConstants.{PARTS, REPLY};
-ghost use Rattle.md_report.specs.declared.text.line_buffer.TheConstants.{SIZE};
-=======
 ghost use Rattle.std.specs.Prelude.{◌≡◌, ◌++◌, ◌<◌, ◌+◌, ◌^◌, take, sum_by, OnOk};
 ghost use Rattle.md_report.specs.Report.{line_text, lines_text, callers_text_after};
->>>>>>> cc26ec1d (Draft: packed replies and reports of any kind of reply)
 
 use super::line_buffer::LineBuffer;
 use super::named;

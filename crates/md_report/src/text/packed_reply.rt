@@ -1,6 +1,7 @@
 //! The texts of packed replies of the order book.
 
-ghost use Rattle.std.specs.Prelude.{◌≡◌, ◌++◌, ◌≤◌, ◌+◌, ◌/◌, ◌%◌, ◌^◌, length, take, drop, min, slice_index_or, flat_map};
+ghost use Rattle.std.specs.Prelude.{◌≡◌, ◌++◌, ◌≤◌, ◌+◌, ◌/◌, ◌%◌, ◌^◌, length, take, drop, min};
+ghost use Rattle.std.specs.Prelude.{slice_index_or, flat_map};
 ghost use Rattle.md_book.specs.Book.{padded};
 ghost use Rattle.md_book.specs.declared.limits.TheConstants.{MAX_PARTS};
 ghost use Rattle.md_report_replies.specs.Packed.{parts_of, unpacked};

@@ -1,4 +1,5 @@
 use Rattle.std.proofs.Common.{◌≤◌, sym, subst, arith}
+use Rattle.md_book.specs.OrderRules.{order_market}
 use Rattle.md_orders.specs.Records.{max_records}
 use Rattle.md_orders.specs.Scripts.{count_of}
 use Rattle.md_rounds.proofs.BookLaws as book
@@ -10,8 +11,10 @@ pub returns-clause-laws : goal.returns-clause-laws
 returns-clause-laws c =
     let p = c.args.plan in
     let keep = made-keep p.number p.callers p.lines c.requires.some_caller c.requires.few_callers c.requires.few_lines in
-    book.order-laws (scripts_of p) keep.named keep.few c.commands_meet_the_book.ensures
-    c.commands_are_small.ensures c.replies_suit.ensures c.empty_book_stands.ensures
+    book.line-laws order_market c.rules_hold.ensures (scripts_of p) keep.named keep.few
+
+pub returns-clause-rules : goal.returns-clause-rules
+returns-clause-rules c = c.rules_hold.ensures
 
 pub returns-clause-made : goal.returns-clause-made
 returns-clause-made c =

@@ -12,7 +12,7 @@ use Rattle.md_orders.proofs.Rows.{rows_few}
 use Rattle.md_orders.proofs.read.note_rows.Goals as goal
 
 -- after as many records as a file may have: one more is too many, and without one all were noted
-past : {C : Type 0} (grammar : Grammar C) (known : Option Version) (callers : ℕ) (bytes : List ℕ) (rows : List Row) (reader : Reader (Bor (List ℕ))) (row : Row) (notes : Notes C) (found : Bool)
+past : {C R : Type 0} (grammar : Grammar C) (known : Option Version) (callers : ℕ) (bytes : List ℕ) (rows : List Row) (reader : Reader (Bor (List ℕ))) (row : Row) (notes : Notes C R) (found : Bool)
     → AreNotes grammar known callers rows notes → max_records ≤ notes.count → notes.count ≤ max_records
     → IsNext bytes rows reader row found → AreAllNoted grammar known callers (order_records bytes) notes (not found)
 past grammar known callers bytes rows reader row notes true noted full few next = λ all.

@@ -2,7 +2,6 @@
 
 use super::*;
 use crate::tests::same;
-use md_book::Command;
 use md_many::FreeGate;
 use std::alloc::AllocGlobal;
 use std::process::Abort;
@@ -11,7 +10,7 @@ use std::process::Abort;
 // another play, and how many callers met all others.
 fn in_turn(
     alloc: Global,
-    scripts: &Scripts<Command>,
+    scripts: &Scripts,
     order: &[u32],
     want: &Replayed,
 ) -> Result<(bool, u32), AllocError> {
@@ -25,7 +24,7 @@ fn in_turn(
 // and one caller met all others.
 fn expect_one_met<R: Abort + AllocGlobal>(
     rt: &R,
-    scripts: &Scripts<Command>,
+    scripts: &Scripts,
     order: &[u32],
     want: &Replayed,
 ) {

@@ -4,7 +4,6 @@ ghost use Rattle.std.specs.Prelude.{◌≤◌, length, IfOk};
 
 use super::*;
 use crate::tests::same;
-use md_book::Command;
 use md_history::Contents;
 use md_many::FreeGate;
 use md_rounds::Outcome;
@@ -20,7 +19,7 @@ const TURNS: u32 = 100_000;
 // Plays the lines again on one thread in an order: whether that gives these replies and contents.
 fn is_replayed(
     alloc: Global,
-    scripts: &Scripts<Command>,
+    scripts: &Scripts,
     order: &[u32],
     told: &[Vec<Told>],
     left: &Contents,
@@ -35,7 +34,7 @@ fn is_replayed(
 // one thread: whether that gives the same replies and contents.
 fn is_found(
     alloc: Global,
-    scripts: &Scripts<Command>,
+    scripts: &Scripts,
     told: &[Vec<Told>],
     left: &Contents,
 ) -> Result<bool, AllocError> {
@@ -47,11 +46,7 @@ fn is_found(
 }
 
 // Whether an order explains what was played.
-fn explains<P>(
-    alloc: Global,
-    scripts: &Scripts<Command>,
-    played: &Outcome<P>,
-) -> Result<bool, AllocError> {
+fn explains<P>(alloc: Global, scripts: &Scripts, played: &Outcome<P>) -> Result<bool, AllocError> {
     let Some(told) = lines_told(alloc, scripts, &played.replies)? else {
         return Ok(false);
     };
@@ -59,7 +54,7 @@ fn explains<P>(
 }
 
 // The scripts of the made file of a number.
-fn made_scripts(alloc: Global, number: u64) -> Result<Scripts<Command>, Fail>
+fn made_scripts(alloc: Global, number: u64) -> Result<Scripts, Fail>
     ensures { IfOk result (λ scripts. (2 ≤ length scripts) × (length scripts ≤ 4)) }
 {
     let callers = callers_of(number);

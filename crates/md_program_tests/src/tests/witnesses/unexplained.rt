@@ -2,7 +2,7 @@
 
 use super::*;
 use crate::tests::same;
-use md_book::{BookReply, Command, MAX_PARTS, Part, order_name};
+use md_book::{BookReply, MAX_PARTS, Part, order_name};
 use md_many::FreeGate;
 use std::alloc::AllocGlobal;
 use std::process::Abort;
@@ -78,7 +78,7 @@ fn no_order_explains_these(rt: HostRuntime) -> Result<(), Fail> {
 // order.
 fn explained(
     alloc: Global,
-    scripts: &Scripts<Command>,
+    scripts: &Scripts,
     told: &[Vec<Told>],
     order: &[u32],
 ) -> Result<Orders, AllocError> {
@@ -90,7 +90,7 @@ fn explained(
 // lines leave in some order, and the one that is found.
 fn expect_explained<R: Abort + AllocGlobal>(
     rt: &R,
-    scripts: &Scripts<Command>,
+    scripts: &Scripts,
     told: &[Vec<Told>],
     order: &[u32],
     count: u64,

@@ -2,7 +2,7 @@ use Rattle.std.proofs.Common.{◌∙◌, ◌+◌, ap, sym, refl, subst, drop, ar
 use Rattle.md_report_replies.specs.Packed.{reply_packing}
 use Rattle.md_report_replies.specs.Packing.{unpacked_all}
 use Rattle.md_report_replies.specs.Replies.{RepliesState, with_replies, SuitTheirLines}
-use Rattle.md_report_replies.proofs.Packing.{sum-next, unpacked-next}
+use Rattle.md_report_replies.proofs.PackedLists.{sum-next, unpacked-next}
 use Rattle.md_report_replies.proofs.packed.set_each.Goals as goal
 
 pub room_at-requires : goal.room_at-requires

@@ -19,10 +19,10 @@ added : (g : _) (c : In_ok-push_to g) → scripts_from g.C.ScriptCommand.grammar
 added g c =
     let rules = g.C.BookCommand.book_rules in
     let grammar = g.C.ScriptCommand.grammar in
-    let named = subst (λ ls. rules.is_named (name_of c.args.caller (length (list_of ls c.args.caller) + 1)) c.args.command) (sym c.self.view_is) c.requires.lawful.1 in
+    let named = subst (λ (ls : List (List g.row.C.Denot)). rules.is_named (name_of c.args.caller (length (list_of ls c.args.caller) + 1)) c.args.command) (sym c.self.view_is) c.requires.lawful.1 in
     ap (scripts_from grammar 1) c.in_ok-push_to.ensures.ok
     ∙ scripts-add rules grammar c.grammar_holds.ensures c.self.inside.scripts.items c.args.caller c.args.command named
-    ∙ ap (λ ls. with_list ls c.args.caller (list_of ls c.args.caller ++ c.args.command ∷ [])) c.self.view_is
+    ∙ ap (λ (ls : List (List g.row.C.Denot)). with_list ls c.args.caller (list_of ls c.args.caller ++ c.args.command ∷ [])) c.self.view_is
 
 pub invariant_of-self-2 : goal.invariant_of-self-2
 invariant_of-self-2 g c =

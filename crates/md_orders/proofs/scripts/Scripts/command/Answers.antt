@@ -35,5 +35,5 @@ returns-clause-value g c = sym (found g c)
 pub returns-clause-lawful : goal.returns-clause-lawful
 returns-clause-lawful g c =
     let rules = g.C.BookCommand.book_rules in
-    subst (λ o. IfSome o (λ x. rules.is_command x × rules.is_named (name_of c.args.caller c.args.line) x)) (found g c)
+    subst (λ (o : Option g.row.C.Denot). IfSome o (λ x. rules.is_command x × rules.is_named (name_of c.args.caller c.args.line) x)) (found g c)
     (c.stored.ensures.lawful c.args.caller c.args.line)

@@ -1,4 +1,4 @@
-use Rattle.std.proofs.Common.{◌≡◌, ◌∙◌, length, ap, sym, subst, arith}
+use Rattle.std.proofs.Common.{◌≡◌, ◌∙◌, List, length, ap, sym, subst, arith}
 use Rattle.md_book.specs.Rules.{AreNamedAt}
 use Rattle.md_orders.specs.Scripts.{list_of, at_line, count_of}
 use Rattle.md_orders.specs.Renamed.{renamed_from}
@@ -21,7 +21,7 @@ named g c =
     let lists = c.self.inside.scripts.items in
     let number = length-lists grammar lists c.args.self.now c.self.view_is in
     let there = c.requires.there in
-    ap (λ scripts. list_of scripts c.args.caller) (sym c.self.view_is)
+    ap (λ (scripts : List (List g.row.C.Denot)). list_of scripts c.args.caller) (sym c.self.view_is)
     ∙ list_of-scripts grammar lists c.args.caller
     ∙ ap (renamed_from grammar c.args.caller 1) (list_of-read lists c.args.caller c.index.result.now c.requires.from_1 (omega arith) c.index.ensures)
 
@@ -33,8 +33,8 @@ returns-clause-few g c =
     let long = ap length (named g c) ∙ length-renamed_from g.C.ScriptCommand.grammar c.args.caller 1 c.index.result.now in
     let some = length-list_of-le c.args.self.now c.args.caller in
     let few = c.self.invariant.few in
-    let shown = ap (λ scripts. count_of scripts) c.self.view_is in
+    let shown = ap (λ (scripts : List (List g.row.C.Denot)). count_of scripts) c.self.view_is in
     omega arith
 
 pub returns-clause-lawful : goal.returns-clause-lawful
-returns-clause-lawful g c = subst (λ scripts. AreNamedAt g.C.BookCommand.book_rules (at_line scripts)) c.self.view_is c.self.invariant.named
+returns-clause-lawful g c = subst (λ (scripts : List (List g.row.C.Denot)). AreNamedAt g.C.BookCommand.book_rules (at_line scripts)) c.self.view_is c.self.invariant.named

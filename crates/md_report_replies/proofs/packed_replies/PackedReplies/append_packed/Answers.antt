@@ -1,6 +1,6 @@
 use Rattle.std.proofs.Common.{◌∙◌, ◌++◌, ℕ, List, ap, ap₂}
 use Rattle.md_report_replies.specs.Packing.{unpacked_all}
-use Rattle.md_report_replies.proofs.Packing.{unpacked_all-append}
+use Rattle.md_report_replies.proofs.PackedLists.{unpacked_all-append}
 use Rattle.md_report_replies.proofs.packed_replies.PackedReplies.append_packed.Goals as goal
 
 pub returns-clause-ok : goal.returns-clause-ok

@@ -1,5 +1,5 @@
 use Rattle.std.proofs.Common.{length, ap, arith}
-use Rattle.md_report_replies.proofs.Packing.{length-unpacked_all}
+use Rattle.md_report_replies.proofs.PackedLists.{length-unpacked_all}
 use Rattle.md_report_replies.proofs.packed_replies.PackedReplies.len.Goals as goal
 
 pub returns : goal.returns

@@ -1,6 +1,6 @@
 use Rattle.std.proofs.Common.{◌∙◌, ◌++◌, ◌∷◌, [], List, ap, subst}
 use Rattle.md_report_replies.specs.Packing.{unpacked_all, IsPacked}
-use Rattle.md_report_replies.proofs.Packing.{unpacked_all-push}
+use Rattle.md_report_replies.proofs.PackedLists.{unpacked_all-push}
 use Rattle.md_report_replies.proofs.packed_replies.PackedReplies.push.Goals as goal
 
 pub returns-clause-ok : goal.returns-clause-ok

@@ -1,7 +1,7 @@
 use Rattle.std.proofs.Common.{◌∙◌, length, ap, sym, subst, arith}
 use Rattle.md_report_replies.specs.Packed.{reply_packing}
 use Rattle.md_report_replies.specs.Replies.{SuitTheirLines, with_replies}
-use Rattle.md_report_replies.proofs.Packing.{length-unpacked_all}
+use Rattle.md_report_replies.proofs.PackedLists.{length-unpacked_all}
 use Rattle.md_report_replies.proofs.replies.Replies.set_packed.Goals as goal
 
 pub set_each-requires-clause-suit : goal.set_each-requires-clause-suit

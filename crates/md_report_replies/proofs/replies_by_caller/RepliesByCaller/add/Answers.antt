@@ -8,7 +8,7 @@ use Rattle.md_report_replies.proofs.replies_by_caller.RepliesByCaller.add.Goals 
 
 pub append_to-requires-clause-there : goal.append_to-requires-clause-there
 append_to-requires-clause-there g c =
-    let number = length-map c.self.inside.callers.items (λ (list : List g.R). map Some list) in
+    let number = length-map c.self.inside.callers.items (λ (list : List g.row.R.Denot). map Some list) in
     let shown = ap length c.self.view_is in
     let there = c.requires.there in
     omega arith
@@ -17,7 +17,7 @@ pub returns-clause-ok : goal.returns-clause-ok
 returns-clause-ok g c =
     on_ok_weaker c.append_to.result
     (λ is. ap listed is ∙ listed-add c.self.inside.callers.items c.args.caller c.args.replies
-    ∙ ap (λ (ls : List (List (Option g.R))). with_list ls c.args.caller (list_of ls c.args.caller ++ map Some c.args.replies)) c.self.view_is)
+    ∙ ap (λ (ls : List (List (Option g.row.R.Denot))). with_list ls c.args.caller (list_of ls c.args.caller ++ map Some c.args.replies)) c.self.view_is)
     c.append_to.ensures.ok
 
 pub returns-clause-err : goal.returns-clause-err

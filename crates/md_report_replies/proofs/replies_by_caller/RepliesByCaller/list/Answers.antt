@@ -8,5 +8,5 @@ pub returns-clause-replies : goal.returns-clause-replies
 returns-clause-replies g c =
     let lists = c.self.inside.callers.items in
     let high : c.args.caller ≤ length lists = omega (arith, c.len.ensures, c.self.inside.callers.ok.0) in
-    sym (ap (λ (rs : List (List (Option g.R))). list_of rs c.args.caller) c.self.view_is) ∙ list_of-listed lists c.args.caller
+    sym (ap (λ (rs : List (List (Option g.row.R.Denot))). list_of rs c.args.caller) c.self.view_is) ∙ list_of-listed lists c.args.caller
     ∙ ap (map Some) (list_of-read lists c.args.caller c.index.result.now (omega arith) high c.index.ensures ∙ sym c.told.ensures.replies)
