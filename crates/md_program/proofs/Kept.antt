@@ -7,8 +7,6 @@ use Rattle.md_outside.specs.StdSource.{KeepsReads, StdGives, source_bytes, sourc
 use Rattle.md_outside.specs.declared.std_sink.StdSink.{StdSink}
 use Rattle.md_outside.specs.declared.std_source.StdSource.{StdSource}
 use Rattle.md_orders.specs.Records.{order_records, AreFewRecords}
-use Rattle.md_orders.specs.Grammar.{first_bad}
-use Rattle.md_orders.specs.Orders.{order_grammar}
 use Rattle.md_program_edge.specs.declared.status.Status.{Status}
 use Rattle.md_program_edge.specs.declared.status.Status.TheVariants.{Done, Usage, BadLine, ReadFault, WriteFault, NoMemory}
 use Rattle.md_program_edge.specs.declared.status.Status.TheVariants.{TooLong, TooMany}
@@ -18,11 +16,11 @@ use Rattle.md_program_edge.specs.Status.{status_text}
 use Rattle.md_program_edge.specs.Streams.{max_bytes, HasWriteFault, Tells}
 use Rattle.md_program.specs.Bytes.{AnswersBytes, PlaysBytes, RefusesBytes, StopsAtBytes, StopsByBytes, StopsRun}
 use Rattle.md_program.specs.Program.{HasRefused}
-use Rattle.md_program.specs.Replay.{IsReplay}
+use Rattle.md_program.specs.Kind.{Kind}
 use Rattle.md_program.specs.Run.{Answers, HasPlayed, StopsBeforeText, StopsReplay, StopsWith}
 use Rattle.md_program.specs.Words.{Args}
 
-module _ {R W : Type 0} (remaining : R → Option (List ℕ)) (contents : W → Option (List ℕ)) (source source' : StdSource R)
+module _ (kind : Kind) {R W : Type 0} (remaining : R → Option (List ℕ)) (contents : W → Option (List ℕ)) (source source' : StdSource R)
     (sink sink' : StdSink W) (no_byte : source_bytes source ≡ []) (empty : sink_bytes sink ≡ [])
     (reads : KeepsReads remaining source') (writes : KeepsWrites contents sink') where
   abbrev pub left : StdSource R → Option (List ℕ)
@@ -40,10 +38,10 @@ module _ {R W : Type 0} (remaining : R → Option (List ℕ)) (contents : W → 
   taken bytes is = sym (is ∙ ap (λ bs. bs ++ bytes) empty)
 
   plays : (callers : ℕ) (make : Option Making) (fronts : List Front) (text : List ℕ)
-      → HasPlayed (StdGives remaining) left source_faults source source' callers make fronts text
-      → PlaysBytes callers make (source_bytes source') fronts text
+      → HasPlayed kind (StdGives remaining) left source_faults source source' callers make fronts text
+      → PlaysBytes kind callers make (source_bytes source') fronts text
   plays callers None fronts text played =
-      subst (λ bs. (length bs ≤ max_bytes) × IsReplay callers bs fronts text)
+      subst (λ bs. (length bs ≤ max_bytes) × kind.replays callers bs fronts text)
       (given played.bytes (reads.to_end source played.bytes played.read.reads)) (played.read.short, played.replay)
   plays callers (Some making) fronts text played = (ap source_bytes played.1 ∙ no_byte, played.0)
 
@@ -66,10 +64,10 @@ module _ {R W : Type 0} (remaining : R → Option (List ℕ)) (contents : W → 
   ]
 
   stops-at : (callers : ℕ) (status : Status)
-      → StopsReplay (StdGives remaining) left source_faults source source' callers status
-      → StopsAtBytes callers (source_bytes source') status
+      → StopsReplay kind (StdGives remaining) left source_faults source source' callers status
+      → StopsAtBytes kind callers (source_bytes source') status
   stops-at callers (BadLine n) (bytes, read, few, bad) =
-      subst (λ bs. AreFewRecords (order_records bs) × (first_bad order_grammar callers (order_records bs) ≡ Some n))
+      subst (λ bs. AreFewRecords (order_records bs) × (kind.first_bad callers (order_records bs) ≡ Some n))
       (given bytes (reads.to_end source bytes read.reads)) (few, bad)
   stops-at callers TooMany (bytes, read, many) =
       subst (λ bs. ¬ AreFewRecords (order_records bs)) (given bytes (reads.to_end source bytes read.reads)) many
@@ -86,24 +84,24 @@ module _ {R W : Type 0} (remaining : R → Option (List ℕ)) (contents : W → 
   stops-at callers WriteFault stops = absurd stops
 
   stops : (callers : ℕ) (make : Option Making) (status : Status)
-      → StopsWith (StdGives remaining) left source_faults source source' callers make status
-      → StopsRun callers make (source_bytes source') status
+      → StopsWith kind (StdGives remaining) left source_faults source source' callers make status
+      → StopsRun kind callers make (source_bytes source') status
   stops callers None status s = stops-at callers status s
   stops callers (Some making) status s = (s.0, ap source_bytes s.1 ∙ no_byte)
 
   before-text : (fronts : List Front) (options : Options) (status : Status)
-      → StopsBeforeText (StdGives remaining) left source_faults source source' (StdTakes contents) holds sink_faults sink
+      → StopsBeforeText kind (StdGives remaining) left source_faults source source' (StdTakes contents) holds sink_faults sink
       sink' fronts options status
-      → StopsByBytes options (source_bytes source') (sink_bytes sink') fronts status
+      → StopsByBytes kind options (source_bytes source') (sink_bytes sink') fronts status
   before-text fronts options status (why, (none, tells)) =
-      (stops options.callers options.make status why, none, told (status_text status) tells)
+      (stops options.callers options.make status why, none, told (status_text kind.usage status) tells)
 
   pub answers-bytes : (fronts : List Front) (options : Options) (status : Status)
-      → Answers (StdGives remaining) left source_faults source source' (StdTakes contents) holds sink_faults sink sink'
+      → Answers kind (StdGives remaining) left source_faults source source' (StdTakes contents) holds sink_faults sink sink'
       fronts options status
-      → AnswersBytes options (source_bytes source') (sink_bytes sink') fronts status
+      → AnswersBytes kind options (source_bytes source') (sink_bytes sink') fronts status
   answers-bytes fronts options Done (text, played, whole) =
-      subst (PlaysBytes options.callers options.make (source_bytes source') fronts)
+      subst (PlaysBytes kind options.callers options.make (source_bytes source') fronts)
       (taken text (writes.writes sink text whole.writes)) (plays options.callers options.make fronts text played)
   answers-bytes fronts options WriteFault (text, played, fault) =
       (text, plays options.callers options.make fronts text played, part text fault)
@@ -115,8 +113,8 @@ module _ {R W : Type 0} (remaining : R → Option (List ℕ)) (contents : W → 
   answers-bytes fronts options TooMany stopped = before-text fronts options TooMany stopped
 
   pub refuses-bytes : (args : Args) (fronts : List Front) (status : Status)
-      → HasRefused (StdGives remaining) left source_faults args source source' (StdTakes contents) holds sink_faults sink
+      → HasRefused kind (StdGives remaining) left source_faults args source source' (StdTakes contents) holds sink_faults sink
       sink' fronts status
-      → RefusesBytes (source_bytes source') (sink_bytes sink') fronts status
+      → RefusesBytes kind (source_bytes source') (sink_bytes sink') fronts status
   refuses-bytes args fronts status refused =
-      (ap source_bytes refused.1 ∙ no_byte, refused.2.0, told (status_text status) refused.2.1)
+      (ap source_bytes refused.1 ∙ no_byte, refused.2.0, told (status_text kind.usage status) refused.2.1)

@@ -4,8 +4,6 @@ use Rattle.md_history.specs.Front.{Front}
 use Rattle.md_outside.specs.Causes.{Rose}
 use Rattle.md_outside.specs.Moves.{StreamCall}
 use Rattle.md_orders.specs.Records.{order_records, AreFewRecords}
-use Rattle.md_orders.specs.Grammar.{first_bad}
-use Rattle.md_orders.specs.Orders.{order_grammar}
 use Rattle.md_program_edge.specs.declared.status.Status.{Status}
 use Rattle.md_program_edge.specs.declared.status.Status.TheVariants.{Done, Usage, BadLine, ReadFault, WriteFault, NoMemory}
 use Rattle.md_program_edge.specs.declared.status.Status.TheVariants.{TooLong, TooMany}
@@ -13,26 +11,26 @@ use Rattle.md_program_edge.specs.declared.words.Making.{Making}
 use Rattle.md_program_edge.specs.declared.words.Options.{Options}
 use Rattle.md_program_edge.specs.Status.{status_text}
 use Rattle.md_program_edge.specs.Streams.{max_bytes, IsRead, IsReadInPart, IsOverlong, HasReadFault, IsWritten, HasWriteFault, Tells}
-use Rattle.md_program.specs.Replay.{IsReplay, IsSummed}
+use Rattle.md_program.specs.Kind.{Kind}
 
--- the bytes are within the limits, and none of their records is bad for so many callers
-pub record IsGood (callers : ℕ) (bytes : List ℕ) : Type 0 where
+-- the bytes are within the limits, and none of their records is bad for so many callers of a program
+pub record IsGood (kind : Kind) (callers : ℕ) (bytes : List ℕ) : Type 0 where
   pub short : length bytes ≤ max_bytes
   pub few : AreFewRecords (order_records bytes)
-  pub lawful : first_bad order_grammar callers (order_records bytes) ≡ None
+  pub lawful : kind.first_bad callers (order_records bytes) ≡ None
 
--- A run's input, by the number of its callers.
-module _ {I : Type 0} (gives : StreamCall I) (left : I → Option (List ℕ)) (faults : I → ℕ) (old new : I) (callers : ℕ) where
+-- A run's input, by the program and the number of its callers.
+module _ (kind : Kind) {I : Type 0} (gives : StreamCall I) (left : I → Option (List ℕ)) (faults : I → ℕ) (old new : I) (callers : ℕ) where
   -- the input was replayed, and this is the report
   pub record IsReplayed (fronts : List Front) (text : List ℕ) : Type 0 where
     pub bytes : List ℕ
     pub read : IsRead gives left faults old new bytes
-    pub replay : IsReplay callers bytes fronts text
+    pub replay : kind.replays callers bytes fronts text
 
   -- why a replay stopped before its report
   abbrev pub StopsReplay : Status → Type 0
   StopsReplay (BadLine n) = (bytes : List ℕ) × IsRead gives left faults old new bytes
-      × AreFewRecords (order_records bytes) × (first_bad order_grammar callers (order_records bytes) ≡ Some n)
+      × AreFewRecords (order_records bytes) × (kind.first_bad callers (order_records bytes) ≡ Some n)
   StopsReplay ReadFault = HasReadFault gives left faults old new
   StopsReplay TooLong = IsOverlong gives left faults old new
   StopsReplay TooMany = (bytes : List ℕ) × IsRead gives left faults old new bytes
@@ -49,12 +47,12 @@ module _ {I : Type 0} (gives : StreamCall I) (left : I → Option (List ℕ)) (f
 
   -- the input isn't bad by what was read of it, or the source tells its bytes, and they are good
   abbrev pub IsGoodInput : Type 0
-  IsGoodInput = (¬ IsBadInput) ⊎ ((bytes : List ℕ) × (left old ≡ Some bytes) × IsGood callers bytes)
+  IsGoodInput = (¬ IsBadInput) ⊎ ((bytes : List ℕ) × (left old ≡ Some bytes) × IsGood kind callers bytes)
 
   -- what was played, and its text: the input, or made scripts, and then nothing was read
   abbrev pub HasPlayed : Option Making → List Front → List ℕ → Type 0
   HasPlayed None fronts text = IsReplayed fronts text
-  HasPlayed (Some making) fronts text = IsSummed callers making fronts text × (new ≡ old)
+  HasPlayed (Some making) fronts text = kind.sums callers making fronts text × (new ≡ old)
 
   -- why a run stopped before its text: a replay has its cause, and made scripts only ran out of memory
   abbrev pub StopsWith : Option Making → Status → Type 0
@@ -63,43 +61,43 @@ module _ {I : Type 0} (gives : StreamCall I) (left : I → Option (List ℕ)) (f
 
 -- if no write failed and, where the input is read, no read failed and the input is good, the run is done or ran out of
 -- memory
-abbrev pub EndsWell : {I O : Type 0} → StreamCall I → (I → Option (List ℕ)) → (I → ℕ) → I → I → (O → ℕ) → O → O
+abbrev pub EndsWell : Kind → {I O : Type 0} → StreamCall I → (I → Option (List ℕ)) → (I → ℕ) → I → I → (O → ℕ) → O → O
     → Options → Status → Type 0
-EndsWell gives left read_faults input input' write_faults output output' options status =
+EndsWell kind gives left read_faults input input' write_faults output output' options status =
     ¬ Rose (write_faults output) (write_faults output')
     → (options.make ≡ None → (¬ Rose (read_faults input) (read_faults input'))
-    × IsGoodInput gives left read_faults input input' options.callers)
+    × IsGoodInput kind gives left read_faults input input' options.callers)
     → (status ≡ Done) ⊎ (status ≡ NoMemory)
 
 -- A run's sink before and after, and its fronts.
-module _ {O : Type 0} (takes : StreamCall O) (holds : O → Option (List ℕ)) (write_faults : O → ℕ) (output output' : O)
+module _ (kind : Kind) {O : Type 0} (takes : StreamCall O) (holds : O → Option (List ℕ)) (write_faults : O → ℕ) (output output' : O)
     (fronts : List Front) where
   -- a status was told, and nothing was played
   abbrev pub ToldAlone : Status → Type 0
-  ToldAlone status = (fronts ≡ []) × Tells takes holds write_faults output output' (status_text status)
+  ToldAlone status = (fronts ≡ []) × Tells takes holds write_faults output output' (status_text kind.usage status)
 
--- A run, by its source and its sink before and after, and by its fronts.
-module _ {I : Type 0} (gives : StreamCall I) (left : I → Option (List ℕ)) (read_faults : I → ℕ) (input input' : I)
+-- A run, by its program, by its source and its sink before and after, and by its fronts.
+module _ (kind : Kind) {I : Type 0} (gives : StreamCall I) (left : I → Option (List ℕ)) (read_faults : I → ℕ) (input input' : I)
     {O : Type 0} (takes : StreamCall O) (holds : O → Option (List ℕ)) (write_faults : O → ℕ) (output output' : O)
     (fronts : List Front) where
   -- the words aren't accepted, and nothing was read
   abbrev pub RefusesWords : Status → Type 0
   RefusesWords status = (status ≡ Usage) × (input' ≡ input)
-      × ToldAlone takes holds write_faults output output' fronts Usage
+      × ToldAlone kind takes holds write_faults output output' fronts Usage
 
   -- it stopped before its text, without a round, and told why
   abbrev pub StopsBeforeText : Options → Status → Type 0
   StopsBeforeText options status =
-      StopsWith gives left read_faults input input' options.callers options.make status
-      × ToldAlone takes holds write_faults output output' fronts status
+      StopsWith kind gives left read_faults input input' options.callers options.make status
+      × ToldAlone kind takes holds write_faults output output' fronts status
 
   -- what a run with options answers
   abbrev pub Answers : Options → Status → Type 0
   Answers options Done = (text : List ℕ)
-      × HasPlayed gives left read_faults input input' options.callers options.make fronts text
+      × HasPlayed kind gives left read_faults input input' options.callers options.make fronts text
       × IsWritten takes holds write_faults output output' text
   Answers options WriteFault = (text : List ℕ)
-      × HasPlayed gives left read_faults input input' options.callers options.make fronts text
+      × HasPlayed kind gives left read_faults input input' options.callers options.make fronts text
       × HasWriteFault takes holds write_faults output output' text
   Answers options Usage = StopsBeforeText options Usage
   Answers options (BadLine n) = StopsBeforeText options (BadLine n)

@@ -1,6 +1,6 @@
 //! Writing a whole text.
 
-ghost use Rattle.std.specs.Prelude.{◌≡◌, IfErr, OnErr, OnOk};
+ghost use Rattle.std.specs.Prelude.{◌≡◌, ◌++◌, IfErr, OnErr, OnOk, codes, decimal};
 ghost use Rattle.md_report.specs.Report.{whole_text};
 ghost use Rattle.md_program_edge.specs.Streams.{IsWritten, HasWriteFault, Tells};
 ghost use Rattle.md_program_edge.specs.Status.{status_text};
@@ -48,7 +48,7 @@ fn tell_line<O: Sink>(output: &mut O, line: &[u8])
 
 // The line of a bad record. It takes no memory.
 fn bad_line(number: u32) -> ArrayString<32>
-    ensures { result.bytes ≡ status_text (Status.BadLine number) }
+    ensures { result.bytes ≡ codes "fault line " ++ decimal number ++ codes "\n" }
 {
     let mut line = ArrayString::new();
     let mut buffer = Buffer::new();
@@ -58,16 +58,14 @@ fn bad_line(number: u32) -> ArrayString<32>
     line
 }
 
-/// Writes the line of a status. If a write fails, it writes no more of the line, and says nothing
-/// of it. `Done` and `WriteFault` have no line. It takes no memory.
-pub fn tell<O: Sink>(output: &mut O, status: Status)
-    ensures { Tells O.takes O.holds O.faults output.old output.new (status_text status) }
+/// Writes the line of a status, or `usage` if it is `Usage`. If a write fails, it writes no more of
+/// the line, and says nothing of it. `Done` and `WriteFault` have no line. It takes no memory.
+pub fn tell<O: Sink>(output: &mut O, status: Status, usage: &[u8])
+    ensures { Tells O.takes O.holds O.faults output.old output.new
+        (status_text usage.now status) }
 {
     match status {
-        Status::Usage => tell_line(
-            output,
-            b"usage: medley [--callers N] [--nodes K] [--tries K] [--make NUMBER --lines N]\n",
-        ),
+        Status::Usage => tell_line(output, usage),
         Status::BadLine(number) => {
             let line = bad_line(number);
             tell_line(output, line.as_str().as_bytes());
