@@ -9,10 +9,10 @@ use Rattle.md_program_edge.specs.declared.words.Making.{Making}
 use Rattle.md_program_edge.specs.declared.status.Status.{Status}
 use Rattle.md_program_edge.specs.declared.status.Status.TheVariants.{Done, Usage, BadLine, ReadFault, WriteFault, NoMemory, TooLong, TooMany}
 use Rattle.md_program.specs.Kind.{Kind}
-use Rattle.md_program.specs.Run.{StopsReplay, StopsWith, IsBadInput, IsGood, IsGoodInput}
+use Rattle.md_program.specs.Run.{StopsKind, StopsWith, IsBadInput, IsGood, IsGoodInput}
 
 stops-replay : (kind : Kind) {I : Type 0} (gives : StreamCall I) (left : I → Option (List ℕ)) (faults : I → ℕ) (old new : I) (callers : ℕ) (status : Status)
-    → StopsReplay kind gives left faults old new callers status → ¬ Rose (faults old) (faults new) → ¬ IsBadInput kind gives left faults old new callers → (status ≡ Done) ⊎ (status ≡ NoMemory)
+    → StopsKind kind gives left faults old new callers status → ¬ Rose (faults old) (faults new) → ¬ IsBadInput kind gives left faults old new callers → (status ≡ Done) ⊎ (status ≡ NoMemory)
 stops-replay kind gives left faults old new callers Usage cause reads good = absurd cause
 stops-replay kind gives left faults old new callers (BadLine n) cause reads good = absurd (good (inr (inr (n, cause))))
 stops-replay kind gives left faults old new callers ReadFault cause reads good = absurd (reads cause.rose)

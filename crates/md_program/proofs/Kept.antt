@@ -17,7 +17,7 @@ use Rattle.md_program_edge.specs.Streams.{max_bytes, HasWriteFault, Tells}
 use Rattle.md_program.specs.Bytes.{AnswersBytes, PlaysBytes, RefusesBytes, StopsAtBytes, StopsByBytes, StopsRun}
 use Rattle.md_program.specs.Program.{HasRefused}
 use Rattle.md_program.specs.Kind.{Kind}
-use Rattle.md_program.specs.Run.{Answers, HasPlayed, StopsBeforeText, StopsReplay, StopsWith}
+use Rattle.md_program.specs.Run.{Answers, HasPlayed, StopsBeforeText, StopsKind, StopsWith}
 use Rattle.md_program.specs.Words.{Args}
 
 module _ (kind : Kind) {R W : Type 0} (remaining : R → Option (List ℕ)) (contents : W → Option (List ℕ)) (source source' : StdSource R)
@@ -64,7 +64,7 @@ module _ (kind : Kind) {R W : Type 0} (remaining : R → Option (List ℕ)) (con
   ]
 
   stops-at : (callers : ℕ) (status : Status)
-      → StopsReplay kind (StdGives remaining) left source_faults source source' callers status
+      → StopsKind kind (StdGives remaining) left source_faults source source' callers status
       → StopsAtBytes kind callers (source_bytes source') status
   stops-at callers (BadLine n) (bytes, read, few, bad) =
       subst (λ bs. AreFewRecords (order_records bs) × (kind.first_bad callers (order_records bs) ≡ Some n))

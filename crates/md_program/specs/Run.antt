@@ -3,7 +3,7 @@ use Rattle.std.specs.Prelude.{◌≡◌, ◌≤◌, ◌⊎◌, ℕ, List, [], le
 use Rattle.md_history.specs.Front.{Front}
 use Rattle.md_outside.specs.Causes.{Rose}
 use Rattle.md_outside.specs.Moves.{StreamCall}
-use Rattle.md_orders.specs.Records.{order_records, AreFewRecords}
+use Rattle.md_orders.specs.Records.{Row, order_records, AreFewRecords}
 use Rattle.md_program_edge.specs.declared.status.Status.{Status}
 use Rattle.md_program_edge.specs.declared.status.Status.TheVariants.{Done, Usage, BadLine, ReadFault, WriteFault, NoMemory}
 use Rattle.md_program_edge.specs.declared.status.Status.TheVariants.{TooLong, TooMany}
@@ -19,31 +19,39 @@ pub record IsGood (kind : Kind) (callers : ℕ) (bytes : List ℕ) : Type 0 wher
   pub few : AreFewRecords (order_records bytes)
   pub lawful : kind.first_bad callers (order_records bytes) ≡ None
 
--- A run's input, by the program and the number of its callers.
-module _ (kind : Kind) {I : Type 0} (gives : StreamCall I) (left : I → Option (List ℕ)) (faults : I → ℕ) (old new : I) (callers : ℕ) where
-  -- the input was replayed, and this is the report
-  pub record IsReplayed (fronts : List Front) (text : List ℕ) : Type 0 where
+-- A replay's input.
+module _ {I : Type 0} (gives : StreamCall I) (left : I → Option (List ℕ)) (faults : I → ℕ) (old new : I) where
+  -- the input was replayed by so many callers, and this is the report
+  pub record IsReplayed (replays : ℕ → List ℕ → List Front → List ℕ → Type 0) (callers : ℕ) (fronts : List Front)
+      (text : List ℕ) : Type 0 where
     pub bytes : List ℕ
     pub read : IsRead gives left faults old new bytes
-    pub replay : kind.replays callers bytes fronts text
+    pub replay : replays callers bytes fronts text
 
-  -- why a replay stopped before its report
-  abbrev pub StopsReplay : Status → Type 0
-  StopsReplay (BadLine n) = (bytes : List ℕ) × IsRead gives left faults old new bytes
-      × AreFewRecords (order_records bytes) × (kind.first_bad callers (order_records bytes) ≡ Some n)
-  StopsReplay ReadFault = HasReadFault gives left faults old new
-  StopsReplay TooLong = IsOverlong gives left faults old new
-  StopsReplay TooMany = (bytes : List ℕ) × IsRead gives left faults old new bytes
+  -- why a replay stopped before its report, by the first bad one of records
+  abbrev pub StopsReplay : (List Row → Option ℕ) → Status → Type 0
+  StopsReplay first_bad (BadLine n) = (bytes : List ℕ) × IsRead gives left faults old new bytes
+      × AreFewRecords (order_records bytes) × (first_bad (order_records bytes) ≡ Some n)
+  StopsReplay first_bad ReadFault = HasReadFault gives left faults old new
+  StopsReplay first_bad TooLong = IsOverlong gives left faults old new
+  StopsReplay first_bad TooMany = (bytes : List ℕ) × IsRead gives left faults old new bytes
       × (¬ AreFewRecords (order_records bytes))
-  StopsReplay NoMemory = (bytes : List ℕ)
+  StopsReplay first_bad NoMemory = (bytes : List ℕ)
       × (IsReadInPart gives left faults old new bytes ⊎ IsRead gives left faults old new bytes)
-  StopsReplay Usage = ⊥
-  StopsReplay Done = ⊥
-  StopsReplay WriteFault = ⊥
+  StopsReplay first_bad Usage = ⊥
+  StopsReplay first_bad Done = ⊥
+  StopsReplay first_bad WriteFault = ⊥
+
+-- A run's input, by the program and the number of its callers.
+module _ (kind : Kind) {I : Type 0} (gives : StreamCall I) (left : I → Option (List ℕ)) (faults : I → ℕ) (old new : I)
+    (callers : ℕ) where
+  -- why its replay stopped before the report
+  abbrev pub StopsKind : Status → Type 0
+  StopsKind status = StopsReplay gives left faults old new (kind.first_bad callers) status
 
   -- the input is longer than an input may be, or has too many records, or a bad one
   abbrev pub IsBadInput : Type 0
-  IsBadInput = StopsReplay TooLong ⊎ StopsReplay TooMany ⊎ ((n : ℕ) × StopsReplay (BadLine n))
+  IsBadInput = StopsKind TooLong ⊎ StopsKind TooMany ⊎ ((n : ℕ) × StopsKind (BadLine n))
 
   -- the input isn't bad by what was read of it, or the source tells its bytes, and they are good
   abbrev pub IsGoodInput : Type 0
@@ -51,12 +59,12 @@ module _ (kind : Kind) {I : Type 0} (gives : StreamCall I) (left : I → Option 
 
   -- what was played, and its text: the input, or made scripts, and then nothing was read
   abbrev pub HasPlayed : Option Making → List Front → List ℕ → Type 0
-  HasPlayed None fronts text = IsReplayed fronts text
+  HasPlayed None fronts text = IsReplayed gives left faults old new kind.replays callers fronts text
   HasPlayed (Some making) fronts text = kind.sums callers making fronts text × (new ≡ old)
 
   -- why a run stopped before its text: a replay has its cause, and made scripts only ran out of memory
   abbrev pub StopsWith : Option Making → Status → Type 0
-  StopsWith None status = StopsReplay status
+  StopsWith None status = StopsKind status
   StopsWith (Some making) status = (status ≡ NoMemory) × (new ≡ old)
 
 -- if no write failed and, where the input is read, no read failed and the input is good, the run is done or ran out of

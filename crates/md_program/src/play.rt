@@ -1,23 +1,23 @@
 //! Opening a concurrent store and playing scripts over it, with the nodes and attempts that the
 //! options give.
 
-ghost use Rattle.std.specs.Prelude.{◌≡◌, ◌≤◌, ◌*◌, ℕ, IfOk, OnOk, length, map};
+ghost use Rattle.std.specs.Prelude.{◌≡◌, ◌≤◌, ◌*◌, ℕ, IfOk, IfSome, OnOk, length, map};
 ghost use Rattle.md_book.specs.Book.{Book};
-ghost use Rattle.md_book.specs.OrderRules.{order_market, order_rules};
+ghost use Rattle.md_book.specs.OrderRules.{order_market};
 ghost use Rattle.md_book.specs.Stands.{StandsFor};
 ghost use Rattle.md_many.specs.Played.{IsToldOfEach};
 ghost use Rattle.md_rounds.specs.OrderLines.{line_count_of};
 ghost use Rattle.md_rounds.specs.Replay.{IsPlayed};
-ghost use Rattle.md_program_play.specs.Opened.{IsOpenFor};
-ghost use Rattle.md_program_play.specs.declared.playing.TheConstants.{MAX_LANE_NODES};
+ghost use Rattle.md_program_play.specs.Opened.{FitsStore, IsOpenFor};
+ghost use Rattle.md_program_play.specs.declared.playing.TheConstants.{FEW_NODES, MAX_LANE_NODES};
 ghost use Rattle.md_program_play.specs.declared.playing.TheConstants.{MAX_STORE_NODES};
 ghost use Rattle.md_store.specs.Store.{front_in};
 ghost use Rattle.md_program_edge.specs.Options.{AreInRange};
 
-use md_book::COMMAND_NODES;
+use md_book::BookCommand;
 use md_orders::Scripts;
 use md_program_edge::Options;
-use md_program_play::{OpenStore, open_store, play_on_store};
+use md_program_play::{FEW_NODES, OpenStore, open_store, play_on_store};
 use md_rounds::{Gate, Outcome};
 use md_store::StorePass;
 use std::alloc::{AllocError, Global};
@@ -29,9 +29,6 @@ const MANY_NODES: u32 = 3_145_728;
 // The most nodes of the lane of a single caller, if the options give no number. A renewal takes
 // less time than fresh memory for more nodes: the words of a smaller store stay in the caches.
 const ALONE_NODES: u32 = 524_288;
-
-// The fewest nodes of a lane, if the options give no number.
-const FEW_NODES: u32 = 4_096;
 
 // How many nodes a line takes on average, rounded up.
 const LINE_NODES: u32 = 3;
@@ -67,7 +64,7 @@ fn most_nodes(callers: u32) -> u32
 // all of them, as far as memory sensibly allows.
 fn nodes_for(callers: u32, lines: u32) -> u32
     requires { (1 ≤ callers) × (callers ≤ 64) }
-    ensures lane { (COMMAND_NODES ≤ result) × (result ≤ MAX_LANE_NODES) }
+    ensures lane { (FEW_NODES ≤ result) × (result ≤ MAX_LANE_NODES) }
     ensures all { callers * result ≤ MAX_STORE_NODES }
 {
     let nodes = lines.saturating_mul(LINE_NODES);
@@ -85,9 +82,15 @@ fn nodes_for(callers: u32, lines: u32) -> u32
 /// all lines are played in any case.
 ///
 /// `AllocError` if memory runs out.
-pub fn open_for(alloc: Global, options: &Options, bytes: u32) -> Result<OpenStore, AllocError>
+pub fn open_for<C: BookCommand>(
+    alloc: Global,
+    options: &Options,
+    bytes: u32,
+) -> Result<OpenStore, AllocError>
     requires in_range { AreInRange options.now }
-    ensures { IfOk result (λ o. IsOpenFor order_rules options.now.callers o.store o.pass) }
+    requires fits { FitsStore C.book_rules }
+    requires nodes { IfSome options.now.nodes (λ nodes. C.book_rules.bounds.nodes ≤ nodes) }
+    ensures { IfOk result (λ o. IsOpenFor C.book_rules options.now.callers o.store o.pass) }
 {
     let callers = options.callers;
     let lines = bytes / LINE_BYTES;
@@ -99,7 +102,7 @@ pub fn open_for(alloc: Global, options: &Options, bytes: u32) -> Result<OpenStor
         Some(tries) => tries,
         None => bytes.max(1),
     };
-    open_store(alloc, callers, lines, nodes, tries)
+    open_store::<C>(alloc, callers, lines, nodes, tries)
 }
 
 /// Plays scripts of 1 to 64 callers over an empty store with a lane for each caller, as

@@ -7,7 +7,8 @@ ghost use Rattle.std.specs.Process.{exit_status};
 ghost use Rattle.md_program_edge.specs.Words.{texts};
 ghost use Rattle.md_program.specs.Program.{HasRun, HasExit};
 
-use crate::runs::{run, stop};
+use crate::programs::Program;
+use crate::runs::{run_of, stop};
 use crate::status::Run;
 use md_outside::{Sink, Source};
 use md_program_edge::Status;
@@ -43,13 +44,13 @@ fn words(alloc: Global, args: Args) -> Result<Vec<String>, AllocError>
     Ok(words)
 }
 
-/// Runs the program with `args`, the arguments that the system gave. The first one is the name of
-/// the program, and the others are the words for `run`.
+/// Runs a program with `args`, the arguments that the system gave. The first one is the name of
+/// the program, and the others are the words for `run_of`.
 ///
 /// If `args` is an error, nothing is read. The status is `NoMemory` if the error is of the kind
 /// `OutOfMemory`. It is `Usage` for every other error, which comes if an argument isn't text. The
-/// status is also `NoMemory` if there is no memory for the words. `run` has the other statuses.
-pub fn run_program<R, I, O>(
+/// status is also `NoMemory` if there is no memory for the words. `run_of` has the other statuses.
+pub fn run_program<P, R, I, O>(
     rt: &R,
     alloc: Global,
     args: io::Result<Args>,
@@ -57,32 +58,33 @@ pub fn run_program<R, I, O>(
     output: &mut O,
 ) -> Run
 where
+    P: Program,
     R: Threads + Sync,
     I: Source,
     O: Sink,
-    ensures run { HasRun I.gives I.left I.faults args input.old input.new
+    ensures run { HasRun P.kind I.gives I.left I.faults args input.old input.new
         O.takes O.holds O.faults output.old output.new
         (map front_in result.fronts.items) result.status }
 {
     let args = match args {
         Ok(args) => args,
         Err(error) if error.kind() == ErrorKind::OutOfMemory => {
-            return stop(alloc, output, Status::NoMemory);
+            return stop::<P, O>(alloc, output, Status::NoMemory);
         }
-        Err(_) => return stop(alloc, output, Status::Usage),
+        Err(_) => return stop::<P, O>(alloc, output, Status::Usage),
     };
     let Ok(words) = words(alloc, args) else {
-        return stop(alloc, output, Status::NoMemory);
+        return stop::<P, O>(alloc, output, Status::NoMemory);
     };
     let Ok(slices) = slices(alloc, &words) else {
-        return stop(alloc, output, Status::NoMemory);
+        return stop::<P, O>(alloc, output, Status::NoMemory);
     };
-    run(rt, alloc, &slices, input, output, &FreeGate)
+    run_of::<P, R, I, O, FreeGate>(rt, alloc, &slices, input, output, &FreeGate)
 }
 
-/// Runs the program once by `run_program`, and returns the number of the run's status as the exit
+/// Runs a program once by `run_program`, and returns the number of the run's status as the exit
 /// status (`Status::number`).
-pub fn exit_of_program<R, I, O>(
+pub fn exit_of_program<P, R, I, O>(
     rt: &R,
     alloc: Global,
     args: io::Result<Args>,
@@ -90,12 +92,13 @@ pub fn exit_of_program<R, I, O>(
     output: &mut O,
 ) -> ExitCode
 where
+    P: Program,
     R: Threads + Sync,
     I: Source,
     O: Sink,
-    ensures run { HasExit I.gives I.left I.faults args input.old input.new
+    ensures run { HasExit P.kind I.gives I.left I.faults args input.old input.new
         O.takes O.holds O.faults output.old output.new (exit_status result) }
 {
-    let run = run_program(rt, alloc, args, input, output);
+    let run = run_program::<P, R, I, O>(rt, alloc, args, input, output);
     ExitCode::from(run.status)
 }

@@ -2,7 +2,7 @@
 #![tactic(auto)]
 
 pub use closing::close_for_report;
-pub use playing::{MAX_LANE_NODES, OpenStore, open_store, play_on_store, play_opened};
+pub use playing::{FEW_NODES, MAX_LANE_NODES, OpenStore, open_store, play_on_store, play_opened};
 
 mod closing;
 mod playing;

@@ -1,10 +1,10 @@
 //! How a store is opened for callers, and how their scripts are played over it.
 
 ghost use Rattle.std.specs.Prelude.{◌≡◌, ◌≤◌, ◌*◌, IfOk, OnOk, length, map};
-ghost use Rattle.md_words.specs.declared.limits.TheConstants.{MANY_BUCKETS};
+ghost use Rattle.md_words.specs.declared.limits.TheConstants.{MANY_BUCKETS, MAX_MAPS};
 ghost use Rattle.md_words.specs.Layout.{HasNumbers};
 ghost use Rattle.md_book.specs.Book.{Book};
-ghost use Rattle.md_book.specs.OrderRules.{order_market, order_rules};
+ghost use Rattle.md_book.specs.OrderRules.{order_market};
 ghost use Rattle.md_book.specs.Rules.{market_of};
 ghost use Rattle.md_book.specs.Stands.{StandsFor};
 ghost use Rattle.md_rounds.specs.OrderLines.{line_count_of};
@@ -12,9 +12,9 @@ ghost use Rattle.md_rounds.specs.Replay.{IsPlayed};
 ghost use Rattle.md_many.specs.Closed.{ClosesTo};
 ghost use Rattle.md_many.specs.Played.{IsToldOfEach};
 ghost use Rattle.md_store.specs.Store.{IsPassOf, all_lanes, front_in, start_of};
-ghost use Rattle.md_program_play.specs.Opened.{IsOpenFor};
+ghost use Rattle.md_program_play.specs.Opened.{FitsStore, IsOpenFor};
 
-use md_book::{COMMAND_NODES, LEVELS, MAPS};
+use md_book::{BookCommand, COMMAND_NODES, Command, LEVELS};
 use md_history::Contents;
 use md_many::Gate;
 use md_orders::{ScriptCommand, Scripts};
@@ -25,6 +25,9 @@ use md_words::Shape;
 use md_words::limits::{FEW_BUCKETS, MANY_BUCKETS};
 use std::alloc::{AllocError, Global};
 use std::thread::Threads;
+
+/// The fewest nodes that a lane of the store is given, if no number is asked for.
+pub const FEW_NODES: u32 = 4_096;
 
 /// The most nodes that a lane of the store may be given. A node takes 24 bytes.
 pub const MAX_LANE_NODES: u32 = 1_572_864;
@@ -49,15 +52,16 @@ fn buckets_for(lines: u32) -> u32
 
 // The shape of a store without orders: a lane for each caller, and a base node for each level's
 // queue.
-fn shape_of(callers: u32, nodes: u32, tries: u32, buckets: u32) -> Shape
+fn shape_of(callers: u32, nodes: u32, tries: u32, maps: u32, buckets: u32) -> Shape
     requires callers { (1 ≤ callers) × (callers ≤ 64) }
     requires nodes { (1 ≤ nodes) × (nodes ≤ MAX_LANE_NODES) }
     requires all { callers * nodes ≤ MAX_STORE_NODES }
     requires tries { 1 ≤ tries }
+    requires maps { (1 ≤ maps) × (maps ≤ MAX_MAPS) }
     requires buckets { (1 ≤ buckets) × (buckets ≤ MANY_BUCKETS) }
-    ensures { HasNumbers result callers nodes LEVELS tries MAPS buckets LEVELS }
+    ensures { HasNumbers result callers nodes LEVELS tries maps buckets LEVELS }
 {
-    Shape::new(callers, nodes, LEVELS, tries, MAPS, buckets, LEVELS).unwrap()
+    Shape::new(callers, nodes, LEVELS, tries, maps, buckets, LEVELS).unwrap()
 }
 
 /// A store without orders, with a lane for each caller, on which nothing was played yet
@@ -76,7 +80,7 @@ pub struct OpenStore {
 ///
 /// `lines` is about how many lines all callers together have: any number, by which the store has
 /// more or fewer buckets. `nodes` is how many nodes a lane has until the store is renewed,
-/// `COMMAND_NODES` to `MAX_LANE_NODES`, and at most `MAX_STORE_NODES` for all lanes together.
+/// those of a command (`COMMAND_NODES` for the order book) to `MAX_LANE_NODES`, and at most `MAX_STORE_NODES` for all lanes together.
 /// `tries` is how many attempts a lane has until then, 1 to 4,294,967,295. With fewer nodes or
 /// attempts the store is renewed more often, and all lines are played in any case.
 ///
@@ -85,7 +89,7 @@ pub struct OpenStore {
 /// linear in the words.
 ///
 /// `AllocError` if memory runs out.
-pub fn open_store(
+pub fn open_store<C: BookCommand>(
     alloc: Global,
     callers: u32,
     lines: u32,
@@ -93,15 +97,17 @@ pub fn open_store(
     tries: u32,
 ) -> Result<OpenStore, AllocError>
     requires callers { (1 ≤ callers) × (callers ≤ 64) }
-    requires nodes { (COMMAND_NODES ≤ nodes) × (nodes ≤ MAX_LANE_NODES) }
+    requires fits { FitsStore C.book_rules }
+    requires nodes { (C.book_rules.bounds.nodes ≤ nodes) × (nodes ≤ MAX_LANE_NODES) }
     requires all { callers * nodes ≤ MAX_STORE_NODES }
     requires tries { 1 ≤ tries }
-    ensures open_for { IfOk result (λ o. IsOpenFor order_rules callers o.store o.pass) }
+    ensures open_for { IfOk result (λ o. IsOpenFor C.book_rules callers o.store o.pass) }
     ensures nodes { IfOk result (λ o. o.store.origin.shape.nodes ≡ nodes) }
     ensures tries { IfOk result (λ o. o.tries ≡ tries) }
 {
-    let shape = shape_of(callers, nodes, tries, buckets_for(lines));
-    let start = Contents::empty(alloc, MAPS, LEVELS)?;
+    let maps = C::maps();
+    let shape = shape_of(callers, nodes, tries, maps, buckets_for(lines));
+    let start = Contents::empty(alloc, maps, LEVELS)?;
     // Empty contents need one node for each queue, and the store has as many base nodes. So `open`
     // fails only if memory runs out.
     let Ok((store, pass)) = Store::open(alloc, shape, &start) else {
@@ -170,7 +176,7 @@ where
         (map front_in o.fronts.items) o.replies.replies book) }
     ensures gate { OnOk result (IsToldOfEach (line_count_of scripts.now) (G.after_called gate.now)) }
 {
-    let opened = open_store(alloc, scripts.callers(), scripts.total(), nodes, tries)?;
+    let opened = open_store::<Command>(alloc, scripts.callers(), scripts.total(), nodes, tries)?;
     let OpenStore { store, pass, tries } = opened;
     run_all(rt, alloc, store, pass, scripts, tries, gate)
 }

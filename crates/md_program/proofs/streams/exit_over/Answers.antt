@@ -15,9 +15,9 @@ returns g c =
         reads = (c.new-source.ensures.reader, no_byte);
         writes = (c.new-sink.ensures.writer, empty);
         exit = exit;
-        answers = λ options has. answers-bytes g.I.Read.remaining g.O.Write.contents _ _ _ _ no_byte empty
+        answers = λ options has. answers-bytes g.P.Program.kind g.I.Read.remaining g.O.Write.contents _ _ _ _ no_byte empty
             c.keeps_reads.ensures c.keeps_writes.ensures exit.fronts options exit.status (exit.run.answers options has);
-        refused = λ other. refuses-bytes g.I.Read.remaining g.O.Write.contents _ _ _ _ no_byte empty
+        refused = λ other. refuses-bytes g.P.Program.kind g.I.Read.remaining g.O.Write.contents _ _ _ _ no_byte empty
             c.keeps_reads.ensures c.keeps_writes.ensures c.args.args exit.fronts exit.status (exit.run.refused other);
       };
     }
