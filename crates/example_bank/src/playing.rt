@@ -16,7 +16,7 @@ use std::thread::Threads;
 /// engine. The pass is fresh, and holds all lanes, one for each teller. A renewal of the engine has
 /// room for what it starts with, and for one node for each transfer.
 ///
-/// `tries` is the most attempts that a teller makes in its turn of a round: any number.
+/// `attempts` is the most attempts that a teller makes in its turn of a round: any number.
 /// `play_open_rounds` says what a round is.
 ///
 /// `AllocError` if memory runs out. Then the engine has ended, and its contents are lost.
@@ -26,7 +26,7 @@ pub fn transfer_all<R, E>(
     engine: E,
     pass: E::Pass,
     transfers: &LinesByCaller<Transfer>,
-    tries: u32,
+    attempts: u32,
 ) -> Result<Many<Outcome, E::Pass>, AllocError>
 where
     R: Threads + Sync,
@@ -43,6 +43,6 @@ where
         (map E.front m.fronts.items) (lists_in m.replies.items) m.contents) }
 {
     let _ = transfers.total();
-    let many = run_lines(rt, alloc, engine, pass, transfers, tries, &FreeGate)?;
+    let many = run_lines(rt, alloc, engine, pass, transfers, attempts, &FreeGate)?;
     Ok(many)
 }

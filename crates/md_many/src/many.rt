@@ -89,7 +89,7 @@ fn empty_lists<R: Drop>(alloc: Global, callers: u32) -> Result<Vec<Vec<R>>, Allo
 /// caller and line. The pass is fresh and holds all lanes, one for each caller. The lines keep
 /// their laws (`AreLawful`), and the engine can run each of them (`CanRun`).
 ///
-/// `tries` is the most attempts that a caller makes in its turn of a round: any number, and well
+/// `attempts` is the most attempts that a caller makes in its turn of a round: any number, and well
 /// chosen as the attempts that a lane has. `play_open_rounds` says what a round is, when the engine
 /// is renewed, and what a call costs. The lists of replies grow as the replies come.
 ///
@@ -101,7 +101,7 @@ pub fn run_many<R, E, L, G>(
     engine: E,
     pass: E::Pass,
     lines: &L,
-    tries: u32,
+    attempts: u32,
     gate: &G,
 ) -> Result<Many<<L::B as Body>::Reply, E::Pass>, AllocError>
 where
@@ -134,7 +134,7 @@ where
         rt,
         alloc,
         lines,
-        attempts: tries,
+        attempts,
         gate,
     };
     let rounds = play_rounds(&play, engine, pass, &mut keeper)?;

@@ -75,7 +75,7 @@ where
 /// within the limits of a fresh pass. A renewal has room for the contents at the start, and for
 /// `growth` nodes more for each line.
 ///
-/// `tries` is the most attempts that a caller makes in its turn of a round, as for `run_many`.
+/// `attempts` is the most attempts that a caller makes in its turn of a round, as for `run_many`.
 ///
 /// `AllocError` if memory runs out, here or in an attempt of the engine. Then the engine has ended,
 /// and its contents are lost.
@@ -85,7 +85,7 @@ pub fn run_lines<R, E, L, G>(
     engine: E,
     pass: E::Pass,
     lines: &L,
-    tries: u32,
+    attempts: u32,
     gate: &G,
 ) -> Result<Many<<L::B as Body>::Reply, E::Pass>, AllocError>
 where
@@ -116,5 +116,5 @@ where
         lines,
         engine: Snapshot::of(&engine),
     };
-    run_many(rt, alloc, engine, pass, &over, tries, gate)
+    run_many(rt, alloc, engine, pass, &over, attempts, gate)
 }

@@ -45,7 +45,7 @@ pub struct OpenOutcome<E: Engine> {
 /// and `COMMAND_NODES` of md_book), and at least one attempt. A renewal has room for contents of
 /// 2,024,000 nodes, which are enough for a book of 1,000,000 orders.
 ///
-/// `tries` is the most attempts that a caller makes in its turn of a round: any number.
+/// `attempts` is the most attempts that a caller makes in its turn of a round: any number.
 /// `play_open_rounds` of md_many says what a round is, and when the engine is renewed. Each caller's
 /// thread packs the replies of its turn (`PackedReplies` of md_report_replies), all but the last batch,
 /// which is packed after the round. A caller's packed replies are kept as they are, one list for all
@@ -59,7 +59,7 @@ pub fn run_all_open<R, E, G>(
     engine: E,
     pass: E::Pass,
     scripts: &Scripts,
-    tries: u32,
+    attempts: u32,
     gate: &G,
 ) -> Result<OpenOutcome<E>, AllocError>
 where
@@ -82,7 +82,7 @@ where
         rt,
         alloc,
         lines: &lines,
-        attempts: tries,
+        attempts,
         gate,
     };
     let rounds = play_open_rounds(&play, engine, pass, &mut keeper)?;
@@ -104,7 +104,7 @@ pub fn run_all<R, E, G>(
     engine: E,
     pass: E::Pass,
     scripts: &Scripts,
-    tries: u32,
+    attempts: u32,
     gate: &G,
 ) -> Result<Outcome<E::Pass>, AllocError>
 where
@@ -124,7 +124,7 @@ where
         rt,
         alloc,
         lines: &lines,
-        attempts: tries,
+        attempts,
         gate,
     };
     let Rounds { contents, fronts } = play_rounds(&play, engine, pass, &mut keeper)?;
