@@ -25,7 +25,7 @@ use Rattle.md_rule.specs.Steps.{Exchanged, SteppedFrom}
 use Rattle.md_rule.specs.Views.{Origin}
 use Rattle.md_rule.proofs.Moves.{is_kept}
 use Rattle.md_rule.proofs.Told.{told_exchange, told_load}
-use Rattle.example_tickets.specs.Taken.{FoundNone, TakenBelow, TakenTicketsArePassed, Takes, TicketsAreTakenOnce, TookTicket}
+use Rattle.example_tickets.specs.Taken.{FoundNone, NextTicketIsFree, TakenBelow, TakenTicketsArePassed, Takes, TicketsAreTakenOnce, TookTicket}
 
 -- a pass made one more step
 record OneMore (p q : PassView) : Type 0 where
@@ -98,36 +98,43 @@ module _ (o : Origin) where
         (q.trail, Contains-push q.past q.trail, (step, subst (λ l. Contains l step) (sym trail) (Contains-push p.trail step), inr (record { there = refl; after = left }))),
       )
 
-  -- and where there is no ticket, the last step shows why
+  -- and where there is no ticket, the look shows why
   pub load_none : (word held : ℕ) (p q : PassView) → word ≡ cell_word o.shape → SteppedFrom cell_meaning o (λ pass. load pass word) word held p q
       → (is_even (count_of held) ≡ false) ⊎ (LAST_COUNT < count_of held) → FoundNone o.shape p q
   load_none word held p q at step why =
       let m = step.0.machine in record {
-        earlier = [];
-        few = omega arith;
-        step = step_of m p Load word (content m word);
-        made = ap (λ (x : PassView). x.trail) (told_load cell_meaning o p q word step.0);
-        there = at;
-        why = subst (λ h. (is_even (count_of h) ≡ false) ⊎ ((LAST_COUNT < count_of h) ⊎ ((Load ≡ Exchange) × (h ≡ h)))) (sym step.1) (⊎_elim (λ odd. inl odd) (λ worn. inr (inl worn)) why);
+        look = step_of m p Load word (content m word);
+        looks = (refl, at);
+        why = inl (
+          ap (λ (x : PassView). x.trail) (told_load cell_meaning o p q word step.0),
+          subst (λ h. (is_even (count_of h) ≡ false) ⊎ (LAST_COUNT < count_of h)) (sym step.1) why,
+        );
       }
 
-  pub exchange_none : (word held from to found : ℕ) (p q r : PassView) → SteppedFrom cell_meaning o (λ pass. load pass word) word held p q
-      → found ≢ from → SteppedFrom cell_meaning o (λ pass. exchange pass (cell_word o.shape) from to) (cell_word o.shape) found q r → FoundNone o.shape p r
-  exchange_none word held from to found p q r loaded lost step =
+  -- or an exchange of what was found, which met something else
+  pub exchange_none : (word held from to found : ℕ) (p q r : PassView) → word ≡ cell_word o.shape → from ≡ held
+      → SteppedFrom cell_meaning o (λ pass. load pass word) word held p q → found ≢ from
+      → SteppedFrom cell_meaning o (λ pass. exchange pass (cell_word o.shape) from to) (cell_word o.shape) found q r → FoundNone o.shape p r
+  exchange_none word held from to found p q r at same loaded lost step =
       let m = loaded.0.machine in
       let n = step.0.machine in
       let cell = cell_word o.shape in
       let new = exchanged_word from to in
       let first = step_of m p Load word (content m word) in
+      let second = step_of n q Exchange cell (left_by n cell from new) in
       let differs : content n cell ≢ from = λ e. lost (sym step.1 ∙ e) in record {
-        earlier = first ∷ [];
-        few = omega arith;
-        step = step_of n q Exchange cell (left_by n cell from new);
-        made = ap (λ (x : PassView). x.trail) (told_exchange cell_meaning o q r cell from to step.0).1
-            ∙ ap (λ l. l ++ step_of n q Exchange cell (left_by n cell from new) ∷ []) (ap (λ (x : PassView). x.trail) (told_load cell_meaning o p q word loaded.0))
-            ∙ append_assoc p.trail (first ∷ []) (step_of n q Exchange cell (left_by n cell from new) ∷ []);
-        there = refl;
-        why = inr (inr (refl, ap (λ b. either b new (content n cell)) (ne_eqb (content n cell) from differs)));
+        look = first;
+        looks = (refl, at);
+        why = inr (
+          second,
+          ap (λ (x : PassView). x.trail) (told_exchange cell_meaning o q r cell from to step.0).1
+              ∙ ap (λ l. l ++ second ∷ []) (ap (λ (x : PassView). x.trail) (told_load cell_meaning o p q word loaded.0))
+              ∙ append_assoc p.trail (first ∷ []) (second ∷ []),
+          refl,
+          refl,
+          ap (λ b. either b new (content n cell)) (ne_eqb (content n cell) from differs),
+          λ e. differs (e ∙ loaded.1 ∙ sym same),
+        );
       }
 
   -- a load and an exchange that wins take the ticket that the load found
@@ -180,3 +187,8 @@ passed o m admitted ticket i p at a =
     let bound = (is_kept cell_meaning o m admitted).stamps.bound word a.step.after counted (inl (i, p, at, met)) in
     let left = a.such.left in
     omega (arith, bound, left)
+
+-- so no step took the ticket that the count is
+pub next_free : NextTicketIsFree
+next_free o m admitted i p at a =
+    let more = passed o m admitted (count_of (content m (cell_word o.shape))) i p at a in absurd (omega (arith, more))

@@ -1,5 +1,5 @@
 -- How far a pass knows that tickets were taken.
-use Rattle.std.specs.Prelude.{◌≡◌, ◌⊎◌, ◌+◌, ◌<◌, ◌≤◌, ◌++◌, ◌∷◌, ℕ, false, List, [], length}
+use Rattle.std.specs.Prelude.{◌≡◌, ◌≢◌, ◌⊎◌, ◌+◌, ◌<◌, ◌≤◌, ◌++◌, ◌∷◌, ℕ, false, []}
 use Rattle.md_words.specs.declared.shape.Shape.{Shape}
 use Rattle.md_words.specs.Content.{count_of, is_even}
 use Rattle.md_machine.specs.declared.pass.PassView.{PassView}
@@ -16,15 +16,14 @@ use Rattle.md_rule.specs.Views.{Origin}
 abbrev pub TakenBelow : Shape → PassView → ℕ → Type 0
 TakenBelow shape view n = (n ≡ 0) ⊎ ((held : ℕ) × (count_of held ≡ n) × SomeStepOf view (Meets (cell_word shape) held))
 
--- the pass made a step or two, and the last one shows why it has no ticket: it found a descriptor in the word, or a count
--- past the last ticket, or it is an exchange that changed nothing
+-- the pass looked at the cell's word, and either there was no ticket: it found a descriptor, or a count past the last ticket;
+-- or it made one exchange of what it had found, which changed nothing, since the word held something else by then
 pub record FoundNone (shape : Shape) (before after : PassView) : Type 0 where
-  pub earlier : List Step
-  pub few : length earlier ≤ 1
-  pub step : Step
-  pub made : after.trail ≡ before.trail ++ (earlier ++ step ∷ [])
-  pub there : step.word ≡ cell_word shape
-  pub why : (is_even (count_of step.before) ≡ false) ⊎ ((LAST_COUNT < count_of step.before) ⊎ ((step.kind ≡ Exchange) × (step.after ≡ step.before)))
+  pub look : Step
+  pub looks : (look.kind ≡ Load) × (look.word ≡ cell_word shape)
+  pub why : ((after.trail ≡ before.trail ++ look ∷ []) × ((is_even (count_of look.before) ≡ false) ⊎ (LAST_COUNT < count_of look.before)))
+      ⊎ ((lost : Step) × (after.trail ≡ before.trail ++ look ∷ lost ∷ []) × (lost.kind ≡ Exchange) × (lost.word ≡ cell_word shape)
+      × (lost.after ≡ lost.before) × (lost.before ≢ look.before))
 
 -- a step took a ticket: it is an exchange that found this count in the cell's word, and left the next one
 pub record Takes (shape : Shape) (ticket : ℕ) (s : Step) : Type 0 where
@@ -41,13 +40,18 @@ pub record TookTicket (shape : Shape) (ticket : ℕ) (before after : PassView) :
   pub looks : (look.kind ≡ Load) × (look.word ≡ cell_word shape)
   pub takes : Takes shape ticket take
 
--- in every machine of a dispenser, the steps that took one ticket are equal, and so are those of the segments before them
+-- in every machine of a dispenser, the steps that took one ticket are equal, and so are those of the segments before them.
+-- Two passes have one step after a split; so this alone doesn't tell one step from two that are equal
 abbrev pub TicketsAreTakenOnce : Type 0
 TicketsAreTakenOnce = (o : Origin) (m : Machine) → Admitted cell_meaning o m → (ticket i j : ℕ) (p q : PassView) → IsAt m i p → IsAt m j q
     → (a : StepOf p (Takes o.shape ticket)) (b : StepOf q (Takes o.shape ticket)) → (a.earlier ≡ b.earlier) × (a.step ≡ b.step)
 
--- in every machine of a dispenser, the count of the cell's word is past each ticket that a step of some pass took. A step
--- takes the ticket that is the count when it is made; so no ticket is taken a second time
+-- in every machine of a dispenser, the count of the cell's word is past each ticket that a step of some pass took
 abbrev pub TakenTicketsArePassed : Type 0
 TakenTicketsArePassed = (o : Origin) (m : Machine) → Admitted cell_meaning o m → (ticket i : ℕ) (p : PassView) → IsAt m i p
     → StepOf p (Takes o.shape ticket) → ticket + 2 ≤ count_of (content m (cell_word o.shape))
+
+-- so in every machine of a dispenser, no step of any pass took the ticket that is the count of the cell's word
+abbrev pub NextTicketIsFree : Type 0
+NextTicketIsFree = (o : Origin) (m : Machine) → Admitted cell_meaning o m → (i : ℕ) (p : PassView) → IsAt m i p
+    → ¬ StepOf p (Takes o.shape (count_of (content m (cell_word o.shape))))

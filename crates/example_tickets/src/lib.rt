@@ -9,7 +9,8 @@
 
 pub use opening::dispenser;
 pub use tickets::{
-    renew, take_ticket, taken_tickets_are_passed, ticket_word, tickets_are_taken_once,
+    next_ticket_is_free, renew, take_ticket, taken_tickets_are_passed, ticket_word,
+    tickets_are_taken_once,
 };
 
 mod opening;

@@ -8,8 +8,9 @@ ghost use Rattle.md_machine.specs.Event.{exchange};
 ghost use Rattle.example_cell.specs.CellMeaning.{cell_meaning, cell_word};
 ghost use Rattle.md_rule.specs.Steps.{Exchanged};
 ghost use Rattle.md_rule.specs.Views.{IsOf};
-ghost use Rattle.example_tickets.specs.Taken.{FoundNone, TakenBelow, TakenTicketsArePassed};
-ghost use Rattle.example_tickets.specs.Taken.{TicketsAreTakenOnce, TookTicket};
+ghost use Rattle.example_tickets.specs.Taken.{FoundNone, NextTicketIsFree, TakenBelow};
+ghost use Rattle.example_tickets.specs.Taken.{TakenTicketsArePassed, TicketsAreTakenOnce};
+ghost use Rattle.example_tickets.specs.Taken.{TookTicket};
 
 use example_cell::CellTheory;
 use md_machine::step::LAST_COUNT;
@@ -28,8 +29,9 @@ pub fn ticket_word(field: &Field<CellTheory>) -> u32
 /// all tickets below some number are taken, and never gets one of these. After the call it also
 /// knows that its own ticket, and all below it, are taken.
 ///
-/// It returns `None` only if another thread took the ticket that was found, if no ticket is left,
-/// or if a descriptor stands in the word. It takes at most 2 steps, whatever other threads do.
+/// It returns `None` only if the word had changed when it tried to take the ticket that it found, if
+/// no ticket is left, or if a descriptor stands in the word. It takes at most 2 steps, whatever
+/// other threads do.
 pub fn take_ticket(field: &Field<CellTheory>, pass: &mut Pass<CellTheory>) -> Option<u32>
     requires { IsOf pass.old field.now }
     ensures same { pass.new ≡ record pass.old { view = pass.new.view } }
@@ -60,10 +62,17 @@ pub fn tickets_are_taken_once()
     ensures { TicketsAreTakenOnce }
 {}
 
-/// The count of the cell's word is past each ticket that any pass took; so no pass takes it again.
-/// This does nothing: its contract is a law on all machines of a dispenser.
+/// The count of the cell's word is past each ticket that any pass took. This does nothing: its
+/// contract is a law on all machines of a dispenser.
 pub fn taken_tickets_are_passed()
     ensures { TakenTicketsArePassed }
+{}
+
+/// No step of any pass took the ticket that is the count of the cell's word. A step takes the ticket
+/// that is the count when it is made, so no ticket is taken a second time. This does nothing: its
+/// contract is a law on all machines of a dispenser.
+pub fn next_ticket_is_free()
+    ensures { NextTicketIsFree }
 {}
 
 /// Exchanges a content of the cell's word for the same value with a count that is 2 more. The

@@ -1,6 +1,6 @@
 -- What became of an attempt of a store, as its pass tells it.
 use Rattle.std.proofs.Common.{◌≡◌, ◌+◌, ◌≤◌, ℕ, List, [], ◌∷◌, Option, None, Some, Result, Ok, Err, refl, sym, ap, ◌∙◌, subst, ⊎_elim, arith}
-use Rattle.std.specs.Prelude.{IfErr, IfOk, OnErr, option_map}
+use Rattle.std.specs.Prelude.{IfErr, IfOk, OnErr, length, option_map}
 use Rattle.std.specs.List.{Contains, sum_by}
 use Rattle.std.proofs.lemmas.List.Elements.{All-nil}
 use Rattle.std.proofs.lemmas.List.Sums.{sum_by-cons}
@@ -11,6 +11,7 @@ use Rattle.md_history.specs.declared.stops.Stop.{Stop}
 use Rattle.md_history.specs.declared.stops.Stop.TheVariants.{Conflict, Limit, NoMemory}
 use Rattle.md_history.specs.Attempt.{Commits, CountsStop, Stops}
 use Rattle.md_history.specs.Calls.{Refusal}
+use Rattle.md_history.specs.Counts.{nodes}
 use Rattle.md_history.specs.Engine.{IsNoConflict, IsRising}
 use Rattle.md_history.specs.Front.{LegalFrom}
 use Rattle.md_machine.specs.clauses.passes.Alone.{HoldsAll}
@@ -88,6 +89,15 @@ module _ (f : FieldView) (p : PassState) (of : IsPassOf f p) (u : TxnState) (r :
   lanes_are : u.pass.view.lanes ≡ p.view.lanes
   lanes_are = run.later.lanes ∙ run.begins.same.lanes
 
+  -- a pass of these lanes, of which no more attempts were begun since
+  pub now_begun : (q : PassState) → q.view.lanes ≡ p.view.lanes → SameTries u.pass q → begun_by q ≡ begun_by p + 1
+  now_begun q lanes tries =
+      let b = run.begins.lane in
+      let now : (lane : ℕ) → tries_of q lane ≡ tries_of run.start.pass lane = λ lane. tries lane ∙ run.later.front.tries lane in
+      ap (sum_by (tries_of q)) lanes
+      ∙ one_more 0 p.view.lanes (tries_of p) (tries_of q) (attempt_in run.start).desc (lanes_rise p.view.lanes (of_is f p of).rising) b.lowest.held
+      (now (attempt_in run.start).desc ∙ b.one) (λ lane other. now lane ∙ b.others lane other)
+
   -- a pass that put the transaction down is of the field, and began one attempt more
   module _ (w : TxnState) (q : PassState) (down : PutDown store w q) (same : w.field ≡ u.field) (table : w.pass.table ≡ u.pass.table)
       (shape : w.pass.shape ≡ u.pass.shape) (lanes : w.pass.view.lanes ≡ u.pass.view.lanes) (tries : SameTries u.pass w.pass) where
@@ -107,12 +117,7 @@ module _ (f : FieldView) (p : PassState) (of : IsPassOf f p) (u : TxnState) (r :
     down_lanes = down.same.lanes ∙ lanes ∙ lanes_are
 
     down_begun : begun_by q ≡ begun_by p + 1
-    down_begun =
-        let b = run.begins.lane in
-        let now : (lane : ℕ) → tries_of q lane ≡ tries_of run.start.pass lane = λ lane. down.tries lane ∙ tries lane ∙ run.later.front.tries lane in
-        ap (sum_by (tries_of q)) down_lanes
-        ∙ one_more 0 p.view.lanes (tries_of p) (tries_of q) (attempt_in run.start).desc (lanes_rise p.view.lanes (of_is f p of).rising) b.lowest.held
-        (now (attempt_in run.start).desc ∙ b.one) (λ lane other. now lane ∙ b.others lane other)
+    down_begun = now_begun q down_lanes (λ lane. down.tries lane ∙ tries lane)
 
   -- what is said of a pass after an attempt that was begun
   pub record Ended (q : PassState) : Type 0 where
@@ -182,12 +187,12 @@ module _ (f : FieldView) (p : PassState) (of : IsPassOf f p) (u : TxnState) (r :
 
     -- the limit that refused it was reached, and exceeded by a pass of all lanes
     pub reached : Reaches p u.hand.acts refusal.op refusal.stop
-    reached = run.reaches refusal is (subst (λ (g : FieldView). IsPassOf g p) (sym field) of)
+    reached = run.reaches refusal is
 
     pub exceeded : HasAllLanes f p → Exceeds f p u.hand.acts refusal.op refusal.stop
     exceeded all =
         subst (λ (g : FieldView). Exceeds g p u.hand.acts refusal.op refusal.stop) field
-        (run.exceeds refusal is (subst (λ (g : FieldView). IsPassOf g p) (sym field) of) (subst (λ (g : FieldView). HasAllLanes g p) (sym field) all))
+        (run.exceeds refusal is (subst (λ (g : FieldView). HasAllLanes g p) (sym field) all))
 
     pub refused_may : MayStop refusal.stop
     refused_may = may_be refusal.stop cause.no_memory
@@ -232,8 +237,9 @@ no_refusal : (r : Refusal) → (let o : Option Refusal = None in o ≡ Some r) �
 no_refusal r is = cc is
 
 -- one that was begun runs
-pub begun_runs : (p : PassState) (tag : ℕ) (t : TxnState) → BeginsTransaction p tag t → IsGoing store t [] → IsRunning p t None
-begun_runs p tag t begins going = record {
+pub begun_runs : (p : PassState) (tag : ℕ) (t : TxnState) → IsPassOf t.field p → BeginsTransaction p tag t → IsGoing store t [] → IsRunning p t None
+begun_runs p tag t of begins going = record {
+  of = of;
   start = t;
   begins = subst (λ (n : ℕ). BeginsTransaction p n t) (sym (ap (λ (h : Hand). h.tag) begins.hand)) begins;
   later = (goes_self store t).later;
@@ -249,6 +255,10 @@ begun_runs p tag t begins going = record {
       reads = λ r among. absurd (in_none r (subst (λ l. Contains l r) begins.reads among));
     },
   );
+  counts = λ none. record {
+    writes = (let empty = ap length begins.slots in omega (arith, empty));
+    nodes = ap length begins.nodes ∙ sym (ap (λ (h : Hand). nodes h.acts) begins.hand);
+  };
   reaches = λ refusal some. absurd (no_refusal refusal some);
   exceeds = λ refusal some. absurd (no_refusal refusal some);
 }

@@ -1,4 +1,4 @@
--- How many attempts the lanes of two passes have begun together.
+-- How many attempts the lanes of two passes have begun together, and how many nodes they have taken.
 use Rattle.std.proofs.Common.{◌≡◌, ◌==◌, ◌||◌, ◌+◌, ◌<◌, ℕ, zero, suc, Bool, true, false, cond, List, [], ◌∷◌, filter, eq-eqb, ne_eqb, refl, sym, ap, ◌∙◌, subst, ⊎_elim, arith, if◌then◌else◌}
 use Rattle.std.specs.List.{Contains, range_with_len, sum_by}
 use Rattle.std.proofs.lemmas.Bool.{cases_Bool, cases_eq, cond-false, cond-true, eqb-true}
@@ -15,7 +15,7 @@ use Rattle.md_rule.specs.Views.{PassState}
 use Rattle.md_rule_lanes.specs.declared.shares.Share.{Share}
 use Rattle.md_rule.proofs.LaneLists.{lane_exists, lane_fits}
 use Rattle.md_rule.proofs.LaneMoves.{share_joined}
-use Rattle.md_store_bodies.specs.Store.{begun_by}
+use Rattle.md_store_bodies.specs.Store.{begun_by, taken_by}
 
 -- tests that agree on the elements of a list leave the same of it
 filter_same : (p q : ℕ → Bool) (xs : List ℕ) → ((x : ℕ) → Contains xs x → p x ≡ q x) → filter p xs ≡ filter q xs
@@ -82,38 +82,45 @@ sum_of_either a b g h k (x ∷ xs) apart first second =
         let is = two refl in omega (arith, more, less, is, rest)
     by_tests false false either ones others rest never one two = rest
 
--- what two passes of one shape have begun, they have begun together
+-- what is counted of the lanes of two passes of one shape is counted of both together
 module _ (p q : PassState) (same : q.shape ≡ p.shape) (mine : AreLanes p.shape p.view.lanes) (theirs : AreLanes q.shape q.view.lanes)
     (apart : (lane : ℕ) → Contains p.view.lanes lane → Contains q.view.lanes lane → ⊥) where
   abbrev both : PassState
   both = record p { view = joined_part p.shape p.view q.view; shares = joined_shares q.view.lanes p.shares q.shares }
 
-  abbrev tries_of : List Share → ℕ → ℕ
-  tries_of shares lane = (share_at shares lane).tries_taken
-
   both_share : (lane : ℕ) → lane < 64 → share_at both.shares lane ≡ (if is_lane_of q.view.lanes lane then share_at q.shares lane else share_at p.shares lane)
   both_share lane fits = share_joined q.view.lanes p.shares q.shares lane fits
 
-  first_share : (lane : ℕ) → is_lane_of p.view.lanes lane ≡ true → tries_of both.shares lane ≡ tries_of p.shares lane
-  first_share lane held =
-      let c = lane_is_of p.view.lanes lane held in
-      ap (λ (s : Share). s.tries_taken) (both_share lane (lane_fits p.shape p.view.lanes lane mine c)
-      ∙ cond-false (is_lane_of q.view.lanes lane) (share_at q.shares lane) (share_at p.shares lane)
-      (⊎_elim (λ other. absurd (apart lane c (lane_is_of q.view.lanes lane other))) (λ no. no) (cases_Bool (is_lane_of q.view.lanes lane))))
+  module _ (count : Share → ℕ) where
+    abbrev of_lane : List Share → ℕ → ℕ
+    of_lane shares lane = count (share_at shares lane)
 
-  second_share : (lane : ℕ) → is_lane_of q.view.lanes lane ≡ true → tries_of both.shares lane ≡ tries_of q.shares lane
-  second_share lane held =
-      ap (λ (s : Share). s.tries_taken) (both_share lane (lane_fits q.shape q.view.lanes lane theirs (lane_is_of q.view.lanes lane held))
-      ∙ cond-true (is_lane_of q.view.lanes lane) (share_at q.shares lane) (share_at p.shares lane) held)
+    first_share : (lane : ℕ) → is_lane_of p.view.lanes lane ≡ true → of_lane both.shares lane ≡ of_lane p.shares lane
+    first_share lane held =
+        let c = lane_is_of p.view.lanes lane held in
+        ap count (both_share lane (lane_fits p.shape p.view.lanes lane mine c)
+        ∙ cond-false (is_lane_of q.view.lanes lane) (share_at q.shares lane) (share_at p.shares lane)
+        (⊎_elim (λ other. absurd (apart lane c (lane_is_of q.view.lanes lane other))) (λ no. no) (cases_Bool (is_lane_of q.view.lanes lane))))
+
+    second_share : (lane : ℕ) → is_lane_of q.view.lanes lane ≡ true → of_lane both.shares lane ≡ of_lane q.shares lane
+    second_share lane held =
+        ap count (both_share lane (lane_fits q.shape q.view.lanes lane theirs (lane_is_of q.view.lanes lane held))
+        ∙ cond-true (is_lane_of q.view.lanes lane) (share_at q.shares lane) (share_at p.shares lane) held)
+
+    counted_together : sum_by (of_lane both.shares) both.view.lanes ≡ sum_by (of_lane p.shares) p.view.lanes + sum_by (of_lane q.shares) q.view.lanes
+    counted_together =
+        let all : List ℕ = range_with_len 0 p.shape.lanes in
+        let sizes : q.shape.lanes ≡ p.shape.lanes = ap (λ (s : Shape). s.lanes) same in
+        sum_of_either (is_lane_of p.view.lanes) (is_lane_of q.view.lanes) (of_lane both.shares) (of_lane p.shares) (of_lane q.shares) all
+        (λ lane c one two. apart lane (lane_is_of p.view.lanes lane one) (lane_is_of q.view.lanes lane two))
+        (λ lane c held. first_share lane held) (λ lane c held. second_share lane held)
+        ∙ ap (λ l. sum_by (of_lane p.shares) l + sum_by (of_lane q.shares) (filter (is_lane_of q.view.lanes) all))
+        (filter_itself 0 p.shape.lanes p.view.lanes mine.rising (λ lane c. let less = lane_exists p.shape p.view.lanes lane mine c in omega (arith, less)))
+        ∙ ap (λ l. sum_by (of_lane p.shares) p.view.lanes + sum_by (of_lane q.shares) l)
+        (filter_itself 0 p.shape.lanes q.view.lanes theirs.rising (λ lane c. let less = lane_exists q.shape q.view.lanes lane theirs c in omega (arith, less, sizes)))
 
   pub begun_together : begun_by both ≡ begun_by p + begun_by q
-  begun_together =
-      let all : List ℕ = range_with_len 0 p.shape.lanes in
-      let sizes : q.shape.lanes ≡ p.shape.lanes = ap (λ (s : Shape). s.lanes) same in
-      sum_of_either (is_lane_of p.view.lanes) (is_lane_of q.view.lanes) (tries_of both.shares) (tries_of p.shares) (tries_of q.shares) all
-      (λ lane c one two. apart lane (lane_is_of p.view.lanes lane one) (lane_is_of q.view.lanes lane two))
-      (λ lane c held. first_share lane held) (λ lane c held. second_share lane held)
-      ∙ ap (λ l. sum_by (tries_of p.shares) l + sum_by (tries_of q.shares) (filter (is_lane_of q.view.lanes) all))
-      (filter_itself 0 p.shape.lanes p.view.lanes mine.rising (λ lane c. let less = lane_exists p.shape p.view.lanes lane mine c in omega (arith, less)))
-      ∙ ap (λ l. sum_by (tries_of p.shares) p.view.lanes + sum_by (tries_of q.shares) l)
-      (filter_itself 0 p.shape.lanes q.view.lanes theirs.rising (λ lane c. let less = lane_exists q.shape q.view.lanes lane theirs c in omega (arith, less, sizes)))
+  begun_together = counted_together (λ (s : Share). s.tries_taken)
+
+  pub taken_together : taken_by both ≡ taken_by p + taken_by q
+  taken_together = counted_together (λ (s : Share). s.nodes_taken)

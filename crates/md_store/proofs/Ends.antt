@@ -1,7 +1,10 @@
 -- The four ways in which an attempt of a store ends, each with all that is told of it.
-use Rattle.std.proofs.Common.{◌≡◌, ℕ, List, map, Option, None, Some, refl, ap, subst, inl, inr, ◌∙◌}
+use Rattle.std.proofs.Common.{◌≡◌, ◌≤◌, ◌+◌, ℕ, List, [], ◌∷◌, map, length, Option, None, Some, refl, sym, ap, subst, inl, inr, ◌∙◌}
 use Rattle.md_arena.specs.Left.{HasTryLeft, NoLane}
 use Rattle.md_history.specs.declared.acts.Act.{Act}
+use Rattle.md_history.specs.declared.entries.Entry.{Entry}
+use Rattle.md_history.specs.declared.entries.Fate.{Fate}
+use Rattle.md_history.specs.declared.entries.Fate.TheVariants.{Committed as IsCommitted}
 use Rattle.md_history.specs.declared.stops.Attempt.TheVariants.{Committed, Stopped as IsStopped}
 use Rattle.md_history.specs.declared.stops.Limit.{Limit}
 use Rattle.md_history.specs.declared.stops.Limit.TheVariants.{Tries}
@@ -9,7 +12,9 @@ use Rattle.md_history.specs.declared.stops.Shown.{Shown}
 use Rattle.md_history.specs.declared.stops.Stop.{Stop}
 use Rattle.md_history.specs.declared.stops.Stop.TheVariants.{Conflict, Limit as Limited}
 use Rattle.md_history.specs.Calls.{Refusal}
+use Rattle.md_history.specs.Counts.{nodes as count_nodes}
 use Rattle.md_history.specs.Engine.{IsNoConflict}
+use Rattle.md_history.specs.Front.{own_after}
 use Rattle.md_machine.specs.declared.attempt.Hand.{Hand}
 use Rattle.md_nbtc_law.specs.Ended.{WasCommitted, WasLost}
 use Rattle.md_nbtc_law.specs.Ending.{BeginsTransaction, BeginsNot, Stopped}
@@ -21,9 +26,10 @@ use Rattle.md_store_law.specs.Store.{store}
 use Rattle.md_store.specs.Attempted.{IsAttempted}
 use Rattle.md_store_bodies.specs.Counted.{Exceeds, Reaches}
 use Rattle.md_store_bodies.specs.Running.{BreaksOff, IsRunning}
-use Rattle.md_store_bodies.specs.Store.{IsPassOf, IsUnworn, MayStop}
+use Rattle.md_store_bodies.specs.Store.{IsPassOf, IsUnworn, MayStop, front_in, taken_by}
 use Rattle.md_store.proofs.Attempts.{RunOf, alone_lost, begun_committed, begun_lost, begun_stopped, cause, counted_if, exceeded, front_committed, front_lost, front_stopped, legal_of, of_committed, of_lost, of_stopped, reached, refused_may, refused_to, unbegun_counts, unbegun_front, unbegun_of}
 use Rattle.md_store.proofs.FirstAttempts.{refused_unworn}
+use Rattle.md_store.proofs.Taken.{taken_committed, taken_lost, taken_stopped, taken_unbegun}
 use Rattle.md_store.proofs.Small.{has_try, holds_lanes, none_refused}
 
 -- a transaction that a body ran is on the field and has the tag with which it began
@@ -38,6 +44,14 @@ is_on f g p tag u v w field tagged same of is begins = record {
   tagged = tagged ∙ ap (λ (t : TxnState). t.hand.tag) same ∙ ap (λ (h : Hand). h.tag) begins.hand;
 }
 
+-- an entry that is the only one is that one
+abbrev first_entry : Entry → List (Entry × Fate) → Entry
+first_entry e [] = e
+first_entry e (p ∷ ps) = p.0
+
+one_own : (d e : Entry) → (let alone : Entry → List (Entry × Fate) = λ x. (x, IsCommitted) ∷ [] in alone d ≡ alone e) → d ≡ e
+one_own d e is = ap (first_entry d) is
+
 module _ {R : Type 0} (f : FieldView) (p : PassState) (of : IsPassOf f p) (tag : ℕ) (did : List Act → R → Type 0) (makes : List Act → Type 0) (q : PassState) where
   -- none was begun, since no lane has an attempt left
   pub ends_unbegun : BeginsNot store p f.origin q → (limit : Limit) → limit ≡ Tries → NoLane p (HasTryLeft p)
@@ -50,6 +64,7 @@ module _ {R : Type 0} (f : FieldView) (p : PassState) (of : IsPassOf f p) (tag :
     };
     of = unbegun_of f p q of none;
     begun = unbegun_counts f p q of none;
+    nodes = taken_unbegun f p q none;
     cause = inl (ap Limited is, no_lane);
     may_stop = tt;
     alone = λ all shown e. absurd (cc e);
@@ -61,10 +76,21 @@ module _ {R : Type 0} (f : FieldView) (p : PassState) (of : IsPassOf f p) (tag :
     ran : (r : Option Refusal) → IsRunning p u r → RunOf f p tag u r
     ran r running = record { running = running; field = on.field; tagged = on.tagged }
 
+    -- the entry of one that was committed has its acts, which count its nodes
+    takes_committed : IsRunning p u None → u.nodes ≡ map (own_node (shape_in u) u.pass) (taken_since u.began u.pass) → RunOf f p tag u None → WasCommitted store u q
+        → (e : Entry) → own_after (length (front_in p).seen) (front_in q) ≡ (e, IsCommitted) ∷ [] → taken_by q ≤ taken_by p + count_nodes e.acts
+    takes_committed running nodes x was e own =
+        let told : List Act → Unit {0} → Type 0 = λ acts any. acts ≡ u.hand.acts in
+        let done : Unit {0} = tt in
+        let c = front_committed f p of tag u None x q told done refl was in
+        let same : c.entry ≡ e = one_own c.entry e (sym c.own ∙ own) in
+        let acts : e.acts ≡ u.hand.acts = ap (λ (y : Entry). y.acts) (sym same) ∙ c.did_it in
+        subst (λ (acts : List Act). taken_by q ≤ taken_by p + count_nodes acts) (sym acts) (taken_committed f p of u None running on.field nodes refl q was)
+
     -- no call was refused, and it committed
-    pub ends_committed : IsRunning p u None → (reply : R) → did u.hand.acts reply → WasCommitted store u q
-        → IsAttempted f p q tag did makes (Committed reply)
-    ends_committed running reply told was =
+    pub ends_committed : IsRunning p u None → u.nodes ≡ map (own_node (shape_in u) u.pass) (taken_since u.began u.pass) → (reply : R) → did u.hand.acts reply
+        → WasCommitted store u q → IsAttempted f p q tag did makes (Committed reply)
+    ends_committed running nodes reply told was =
         let x = ran None running in record {
           atomic = record {
             committed = front_committed f p of tag u None x q did reply told was;
@@ -73,6 +99,7 @@ module _ {R : Type 0} (f : FieldView) (p : PassState) (of : IsPassOf f p) (tag :
           };
           of = of_committed f p of tag u None x q was;
           begun = begun_committed f p of tag u None x q was;
+          nodes = takes_committed running nodes x was;
           cause = tt;
           may_stop = tt;
           alone = λ all. tt;
@@ -91,6 +118,7 @@ module _ {R : Type 0} (f : FieldView) (p : PassState) (of : IsPassOf f p) (tag :
           };
           of = of_lost f p of tag u None x q shown lost;
           begun = begun_lost f p of tag u None x q shown lost;
+          nodes = taken_lost f p of u None running on.field q shown lost;
           cause = inr (inr (record { txn = u; field = on.field; running = running; shown = shown; same = refl; lost = lost }));
           may_stop = tt;
           alone = alone_lost f p of tag u None x q shown lost;
@@ -113,6 +141,7 @@ module _ {R : Type 0} (f : FieldView) (p : PassState) (of : IsPassOf f p) (tag :
           };
           of = of_stopped f p of tag u (Some refusal) x q gone;
           begun = counted_if why _ _ (begun_stopped f p of tag u (Some refusal) x q gone);
+          nodes = taken_stopped f p of u (Some refusal) running on.field q gone;
           cause = inr (inl (record {
             txn = u;
             field = on.field;

@@ -13,14 +13,15 @@ use Rattle.md_rule.specs.Views.{FieldView, PassState}
 use Rattle.md_rule.proofs.LaneLists.{joined_are_lanes}
 use Rattle.md_rule.proofs.Moves.{goes_on, is_kept, next_admitted}
 use Rattle.md_store_law.specs.Store.{store}
-use Rattle.md_store_bodies.specs.Store.{IsPassOf, begun_by, front_in}
-use Rattle.md_store.proofs.Counting.{begun_together}
+use Rattle.md_store_bodies.specs.Store.{IsPassOf, begun_by, front_in, taken_by}
+use Rattle.md_store.proofs.Counting.{begun_together, taken_together}
 use Rattle.md_store.proofs.Joining.{joins_fronts, lanes_apart}
 
 -- what a join tells of two passes of a store
 pub record JoinSo (f : FieldView) (old other new : PassState) : Type 0 where
   pub fronts : Joins (front_in old) (front_in other) (front_in new)
   pub begun : begun_by new ≡ begun_by old + begun_by other
+  pub nodes : taken_by new ≡ taken_by old + taken_by other
   pub of : IsPassOf f new
 
 module _ (f : FieldView) (old other : PassState) (h : IsPassOf f old) (g : IsPassOf f other)
@@ -43,6 +44,7 @@ module _ (f : FieldView) (old other : PassState) (h : IsPassOf f old) (g : IsPas
             subst (λ (x : Shape). Joins (front_of old.shape old.view) (front_of x other.view) (front_of old.shape both.view)) theirs_is
             (subst (λ (x : Shape). Joins (front_of x old.view) (front_of (shape_of m) other.view) (front_of x (joined_part x old.view other.view))) shape fronts);
         begun = begun_together old other (g.of.shape ∙ sym h.of.shape) mine theirs (lanes_apart m k s.pass t.seat old.view other.view s.acts.at t.beside.at s.does.3);
+        nodes = taken_together old other (g.of.shape ∙ sym h.of.shape) mine theirs (lanes_apart m k s.pass t.seat old.view other.view s.acts.at t.beside.at s.does.3);
         of = record {
           of = record { table = h.of.table; shape = h.of.shape };
           stands = record {

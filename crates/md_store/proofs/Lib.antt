@@ -11,10 +11,12 @@ pub mod Closed
 pub mod Rooms
 pub mod Renewing
 pub mod Attempts
+pub mod Taken
 pub mod Untouched
 pub mod FirstAttempts
 pub mod Small
 pub mod Ends
+pub mod Left
 pub mod Transactions
 pub mod BreakingOff
 pub mod Numbers

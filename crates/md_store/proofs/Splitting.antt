@@ -1,5 +1,6 @@
 -- A pass is split: what each half has seen and has, and that both are passes of the store.
 use Rattle.std.proofs.Common.{◌≡◌, ◌+◌, ◌-◌, ◌/◌, ◌≤◌, ℕ, true, false, List, [], ◌∷◌, Option, Some, None, IfNone, IfSome, length, filter, map, cond, refl, sym, ap, subst, arith}
+use Rattle.std.specs.Prelude.{option_map, unwrap_or}
 use Rattle.std.proofs.lemmas.List.{length-drop, length-take}
 use Rattle.std.proofs.lemmas.List.Sums.{sum_by-take-drop}
 use Rattle.md_words.specs.declared.shape.Shape.{Shape}
@@ -19,7 +20,7 @@ use Rattle.md_rule_lanes.specs.Shares.{share_at}
 use Rattle.md_rule.specs.Views.{FieldView, PassState}
 use Rattle.md_rule.proofs.Moves.{is_kept, next_admitted}
 use Rattle.md_store_law.specs.Store.{store}
-use Rattle.md_store_bodies.specs.Store.{IsPassOf, begun_by, front_in}
+use Rattle.md_store_bodies.specs.Store.{IsPassOf, begun_by, front_in, taken_by}
 
 -- what is pending of some lanes
 pub pending_of : (shape : Shape) (lanes : List ℕ) (pending : List AttemptId)
@@ -150,3 +151,16 @@ is_split f old new h None is step none =
       of = subst (IsPassOf f) (sym none.1) h;
       of_other = tt;
     }
+
+-- the nodes that a pass has taken are those that its halves have
+pub split_takes : (old new : PassState) (result : Option PassState)
+    → IfSome result (λ p. (2 ≤ length old.view.lanes) × (new ≡ record old { view = kept_part old.shape old.view }) × (p ≡ record old { view = given_part old.shape old.view }))
+    → IfNone result ((length old.view.lanes ≡ 1) × (new ≡ old)) → taken_by old ≡ taken_by new + unwrap_or (option_map taken_by result) 0
+split_takes old new (Some other) is none =
+    let kept : PassState = record old { view = kept_part old.shape old.view } in
+    let given : PassState = record old { view = given_part old.shape old.view } in
+    let both : taken_by old ≡ taken_by kept + taken_by given =
+    sym (sum_by-take-drop (λ lane. (share_at old.shares lane).nodes_taken) old.view.lanes (length old.view.lanes - length old.view.lanes / 2)) in
+    subst (λ (x : PassState). taken_by old ≡ taken_by x + taken_by other) (sym is.1)
+    (subst (λ (x : PassState). taken_by old ≡ taken_by kept + taken_by x) (sym is.2) both)
+split_takes old new None is none = let count = ap taken_by none.1 in omega (arith, count)

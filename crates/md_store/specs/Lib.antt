@@ -3,5 +3,6 @@ pub mod Settling
 pub mod Ending
 pub mod Causes
 pub mod Attempted
+pub mod AttemptLaws
 pub mod PassRow
 pub mod Transactions

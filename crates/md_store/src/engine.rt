@@ -1,6 +1,6 @@
 //! What a store does as an engine, beside attempts. Each call has the clauses of `Engine`.
 
-ghost use Rattle.std.specs.Prelude.{◌≡◌, ◌+◌, ◌↔◌, IfOk, IsTrue};
+ghost use Rattle.std.specs.Prelude.{◌≡◌, ◌+◌, ◌↔◌, IfOk, IsTrue, option_map, unwrap_or};
 ghost use Rattle.md_history.specs.Engine.{HasEnded, HasRoom, IsSplit, Joins, SettlesFrom};
 ghost use Rattle.md_history.specs.Front.{replay_of};
 ghost use Rattle.md_history.specs.State.{HaveSameNumbers};
@@ -8,7 +8,8 @@ ghost use Rattle.md_rule.specs.Closing.{MayClose};
 ghost use Rattle.md_store_law.specs.MapsFrom.{MapsFrom};
 ghost use Rattle.md_store_law.specs.Store.{store};
 ghost use Rattle.md_store.specs.Ending.{Renews};
-ghost use Rattle.md_store_bodies.specs.Store.{IsPassOf, all_lanes, begun_by, front_in, room_of, start_of};
+ghost use Rattle.md_store_bodies.specs.Store.{IsPassOf, all_lanes, begun_by, front_in};
+ghost use Rattle.md_store_bodies.specs.Store.{room_of, start_of, taken_by};
 
 use crate::pass::StorePass;
 use crate::store::Store;
@@ -27,22 +28,26 @@ impl Store {
     }
 
     /// Gives the last half of the lanes, rounded down, to a new pass, which has seen what the old
-    /// one has. `None` exactly if the pass holds one lane. Two steps, or none; it takes no memory.
+    /// one has. `None` exactly if the pass holds one lane. The nodes that the lanes have taken are
+    /// shared out with them. Two steps, or none; it takes no memory.
     pub fn split(&self, pass: &mut StorePass) -> Option<StorePass>
         requires { IsPassOf self.now pass.old }
-        ensures { IsSplit front_in begun_by (IsPassOf self.now) pass.old pass.new result }
+        ensures split { IsSplit front_in begun_by (IsPassOf self.now) pass.old pass.new result }
+        ensures nodes { taken_by pass.old
+            ≡ taken_by pass.new + unwrap_or (option_map taken_by result) 0 }
     {
         let other = moves::split(&self.field, &mut pass.pass)?;
         Some(StorePass::of(other))
     }
 
-    /// Takes the lanes of another pass of the store, and what it has seen. Two steps; it takes no
-    /// memory.
+    /// Takes the lanes of another pass of the store, with the nodes that they have taken, and what
+    /// it has seen. Two steps; it takes no memory.
     pub fn join(&self, pass: &mut StorePass, other: StorePass)
         requires of { IsPassOf self.now pass.old }
         requires of_other { IsPassOf self.now other }
         ensures joined { Joins (front_in pass.old) (front_in other) (front_in pass.new) }
         ensures begun { begun_by pass.new ≡ begun_by pass.old + begun_by other }
+        ensures nodes { taken_by pass.new ≡ taken_by pass.old + taken_by other }
         ensures of { IsPassOf self.now pass.new }
     {
         let StorePass { pass: other, .. } = other;

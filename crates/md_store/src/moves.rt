@@ -1,9 +1,9 @@
 //! How passes are split and joined.
 
-ghost use Rattle.std.specs.Prelude.{◌≡◌, ◌+◌};
+ghost use Rattle.std.specs.Prelude.{◌≡◌, ◌+◌, option_map, unwrap_or};
 ghost use Rattle.md_history.specs.Engine.{IsSplit, Joins};
 ghost use Rattle.md_rule.specs.Lanes.{AreLanes};
-ghost use Rattle.md_store_bodies.specs.Store.{IsPassOf, begun_by, front_in};
+ghost use Rattle.md_store_bodies.specs.Store.{IsPassOf, begun_by, front_in, taken_by};
 
 use md_rule::{Field, Pass};
 use md_store_law::StoreTheory;
@@ -14,7 +14,8 @@ pub(crate) fn split(
     pass: &mut Pass<StoreTheory>,
 ) -> Option<Pass<StoreTheory>>
     requires { IsPassOf field.now pass.old }
-    ensures { IsSplit front_in begun_by (IsPassOf field.now) pass.old pass.new result }
+    ensures split { IsSplit front_in begun_by (IsPassOf field.now) pass.old pass.new result }
+    ensures nodes { taken_by pass.old ≡ taken_by pass.new + unwrap_or (option_map taken_by result) 0 }
 {
     pass.split(field)
 }
@@ -29,6 +30,7 @@ pub(crate) fn join(
     requires of_other { IsPassOf field.now other }
     ensures joined { Joins (front_in pass.old) (front_in other) (front_in pass.new) }
     ensures begun { begun_by pass.new ≡ begun_by pass.old + begun_by other }
+    ensures nodes { taken_by pass.new ≡ taken_by pass.old + taken_by other }
     ensures of { IsPassOf field.now pass.new }
 {
     lanes(pass);

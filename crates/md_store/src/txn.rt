@@ -46,19 +46,21 @@ impl<'a> Model for StoreTxn<'a> {
 
 impl<'a> StoreTxn<'a> {
     /// A transaction that was begun on the store, and has no acts. `before` is the pass as it stood
-    /// before it began. It takes no step.
+    /// before it began, a pass of the store. It takes no step.
     ///
     /// `Store::begin` begins a transaction by the field `pass` of a `StorePass`, and `Begun::with`
     /// lends it the sets of its field `sets`. The function that makes the calls takes the `Txn` and
     /// returns it: only then does its caller learn what the pass becomes.
     pub fn over(txn: Txn<'a, StoreTheory>, before: Snapshot<Pass<StoreTheory>>) -> StoreTxn<'a>
-        requires { IsBegun before.value (state txn) }
+        requires begun { IsBegun before.value (state txn) }
+        requires of { IsPassOf (state txn).field before.value }
         ensures kept { result.kept ≡ record {
           name = txn.entry.pass.ghost_name;
           before = before.value;
           tag = (state txn.entry).hand.tag;
           field = (state txn.entry).field;
         } }
+        ensures now { state_of result ≡ state txn.entry }
         ensures acts { acts_of result ≡ [] }
         ensures refused { result.refused ≡ None }
     {
@@ -76,18 +78,17 @@ impl<'a> StoreTxn<'a> {
         self.broken.is_some()
     }
 
-    /// Ends the calls of the transaction, and returns it as md_nbtc has it. The pass was one of the
-    /// store when the transaction began. It takes no step.
+    /// Ends the calls of the transaction, and returns it as md_nbtc has it. It takes no step.
     ///
     /// If no call was refused, `Txn::commit` ends it, or `Txn::ready` and `Ready::decide` in turn.
     /// `Txn::stop` abandons it, refused or not. `transactions_end` lends what the pass has seen then.
     pub fn done(self) -> Txn<'a, StoreTheory>
-        requires { IsPassOf self.kept.field self.kept.before }
         ensures pass { result.pass.ghost_name ≡ self.entry.kept.name }
         ensures same { state result ≡ state_of self.entry }
         ensures run { HasRun self.entry }
     {
         let StoreTxn { txn, .. } = self;
+        txn.kept();
         txn
     }
 }

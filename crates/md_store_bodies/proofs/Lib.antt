@@ -4,6 +4,7 @@ pub mod Charging
 pub mod Exceeding
 pub mod TakenNodes
 pub mod Reaching
+pub mod MostWritten
 pub mod WrittenWords
 pub mod ListRefusals
 pub mod QueueRefusals

@@ -1,16 +1,14 @@
 -- An operation of a list that was refused by a limit reaches it, and exceeds it if its pass holds all lanes.
-use Rattle.std.proofs.Common.{cond, ◌≡◌, ◌≢◌, ◌⊎◌, ◌≤◌, ◌+◌, ◌++◌, ◌==◌, ◌∙◌, ℕ, true, List, [], ◌∷◌, map, length, refl, sym, ap, subst, inl, inr, ⊎_elim, eq-eqb, append_assoc, Option, Some, None, arith}
+use Rattle.std.proofs.Common.{suc, ◌≡◌, ◌≢◌, ◌⊎◌, ◌≤◌, ◌+◌, ◌++◌, ◌==◌, ◌∙◌, ℕ, true, List, [], ◌∷◌, map, length, refl, sym, ap, subst, inl, ⊎_elim, eq-eqb, append_assoc, Option, Some, None, arith}
 use Rattle.std.specs.Prelude.{is_none}
 use Rattle.std.specs.List.{All, Contains}
 use Rattle.std.specs.FinMap as fin
 use Rattle.std.proofs.lemmas.Bool.{cond_both, false≢true}
 use Rattle.std.proofs.lemmas.Option.{none-some}
-use Rattle.std.proofs.lemmas.List.{append-nil, length-map, map-append}
+use Rattle.std.proofs.lemmas.List.{append-nil, map-append}
 use Rattle.std.proofs.lemmas.List.Concat.{flat_map-append}
-use Rattle.std.proofs.lemmas.List.Sums.{sum_by-cons}
 use Rattle.std.proofs.lemmas.List.Elements.{All-append, All-cons, All-nil, Contains-append_right}
 use Rattle.md_words.specs.declared.limits.TheConstants.{SET}
-use Rattle.md_words.specs.declared.shape.Shape.{Shape}
 use Rattle.md_words.specs.Layout.{bucket_of}
 use Rattle.md_history.specs.declared.acts.Act.{Act}
 use Rattle.md_history.specs.declared.acts.Op.{Op}
@@ -38,12 +36,11 @@ use Rattle.md_nbtc_law.specs.Calls.{GoesOn}
 use Rattle.md_nbtc_law.specs.Ending.{BeginsTransaction}
 use Rattle.md_nbtc_law.specs.Going.{HasCause}
 use Rattle.md_nbtc_law.specs.Known.{IsLater, found_by}
-use Rattle.md_nbtc_law.specs.State.{OwnNode, TxnState, attempt_in, own_node, shape_in, taken_since}
+use Rattle.md_nbtc_law.specs.State.{TxnState, own_node, shape_in, taken_since}
 use Rattle.md_nbtc_law.proofs.preparing.Later.{later_over}
 use Rattle.md_nbtc_law.proofs.operations.Courses.{all_push}
 use Rattle.md_nbtc_law.proofs.ready.Lookups.{all_of}
 use Rattle.md_nbtc_law.proofs.ready.Standing.{pairs_map}
-use Rattle.md_rule_lanes.specs.Shares.{share_at}
 use Rattle.md_rule.specs.Views.{FieldView, PassState}
 use Rattle.md_list.specs.Refusals.{HasSeen, IsAbsent, IsRefused, NeedsNewNode, NeedsNode, NeedsRead, NeedsSlot, NeedsUnlink, OneMoreChange, OneMoreRead, OneMoreUnlink, WouldStand}
 use Rattle.md_list.specs.Walking.{IsHeadOf}
@@ -51,7 +48,7 @@ use Rattle.md_store_law.specs.Store.{store}
 use Rattle.md_store_counts.specs.Few.{AllCharged, RecordsOne, StandFrom, TidyCharged, certificate_acts, placed_nexts, read_before, recorded_by, recorded_words, words_of_changes}
 use Rattle.md_store_counts.proofs.Appending.{charged_more}
 use Rattle.md_store_counts.proofs.Writing.{tidied_are_few}
-use Rattle.md_store_bodies.specs.Counted.{Exceeds, HasCountedCertificates, MayFollow, MayFollowOn, MayGoOn, NeedMore, ReadMore, Reaches, WriteMore}
+use Rattle.md_store_bodies.specs.Counted.{Exceeds, HasCountedCertificates, MayFollow, MayFollowOn, MayGoOn, NeedMore, ReadMore, Reaches, WriteMore, most_written}
 use Rattle.md_store_bodies.specs.Store.{HasAllLanes, IsPassOf, nodes_in, taken_by}
 use Rattle.md_store_bodies.proofs.Charging.{counted_later, list_charged, node_placed, nodes_more, reads_before, reads_more}
 use Rattle.md_store_bodies.proofs.Exceeding.{changed_exceed, more_nodes, more_writes_before, one_more_word, recorded_exceed, replies}
@@ -206,9 +203,10 @@ module _ (p : PassState) (s u : TxnState) (of : IsPassOf s.field p) (tag : ℕ) 
     (nodes_are : u.nodes ≡ map (own_node (shape_in u) u.pass) (taken_since u.began u.pass)) (on : GoesOn store s u) where
   -- an operation of a list reaches the limit
   pub list_reaches : (head key : ℕ) (op : ℕ → Op) (map_of more : ℕ) → ListLimits s u head key op why → more ≤ 2 → length u.reads ≤ length s.reads + more
-      → Reaches p (certificate_acts cs) (op map_of) why
-  list_reaches head key op map_of more limits two few = record {
+      → length u.slots ≤ most_written (suc (length (certificate_acts cs))) → Reaches p (certificate_acts cs) (op map_of) why
+  list_reaches head key op map_of more limits two few written = record {
     reads = reads_reached p s u of tag start begins later cs counted stored why cause nodes_are on more two few;
+    writes = λ is. subst (λ n. n ≤ most_written (suc (length (certificate_acts cs)))) (cause.writes is) written;
     nodes = λ is. ⊎_elim
         (λ any. let r = any.1 in
         new_node_needed p s u of tag start begins later cs counted stored why cause nodes_are on (op map_of) (any.0 map_of) (ap (λ (y : TxnState). y.nodes) r.same ∙ r.needs) is)

@@ -1,5 +1,5 @@
 -- An operation of a queue that was refused by a limit reaches it, and exceeds it if its pass holds all lanes.
-use Rattle.std.proofs.Common.{Bool, ◌≡◌, ◌≤◌, ◌+◌, ◌++◌, ◌⊎◌, ◌∙◌, ℕ, true, false, List, [], ◌∷◌, map, length, refl, sym, ap, subst, inl, inr, ⊎_elim, append_assoc, Option, None, take, le-ltb, lt-ltb, arith}
+use Rattle.std.proofs.Common.{suc, Bool, ◌≡◌, ◌≤◌, ◌+◌, ◌++◌, ◌⊎◌, ◌∙◌, ℕ, true, false, List, [], ◌∷◌, map, length, refl, sym, ap, subst, ⊎_elim, append_assoc, Option, None, take, le-ltb, lt-ltb, arith}
 use Rattle.std.specs.Prelude.{nat_eq, nat_lt}
 use Rattle.std.specs.List.{All, Contains, count_by, filter_map}
 use Rattle.std.proofs.lemmas.Bool.{cases_lt, false≢true}
@@ -41,7 +41,7 @@ use Rattle.md_store_counts.proofs.Appending.{charged_more}
 use Rattle.md_store_counts.proofs.Placing.{one_if}
 use Rattle.md_store_counts.proofs.Recording.{recorded_are_few}
 use Rattle.md_store_counts.proofs.Writing.{tidied_are_few}
-use Rattle.md_store_bodies.specs.Counted.{Exceeds, HasCountedCertificates, MayFollow, MayFollowOn, ReadMore, Reaches, WriteMore}
+use Rattle.md_store_bodies.specs.Counted.{Exceeds, HasCountedCertificates, MayFollow, MayFollowOn, ReadMore, Reaches, WriteMore, most_written}
 use Rattle.md_store_bodies.specs.Store.{HasAllLanes, IsPassOf}
 use Rattle.md_store_bodies.proofs.Charging.{counted_at, queue_charged, queue_reads, reads_more}
 use Rattle.md_store_bodies.proofs.Exceeding.{asked_is, changed_exceed, more_reads, more_writes_before, one_more_word}
@@ -107,9 +107,10 @@ pub queue_reaches : (p : PassState) (s u : TxnState) (of : IsPassOf s.field p) (
     (later : IsLater start s) (cs : List Certificate) (counted : HasCountedCertificates s cs) (stored : s.hand.stored ≡ []) (why : Stop) (cause : HasCause u why)
     (nodes_are : u.nodes ≡ map (own_node (shape_in u) u.pass) (taken_since u.began u.pass)) (on : GoesOn store s u)
     (queue more : ℕ) (op : Op) (Asks : Op → Type 0) → QueueLimits s u cs queue op Asks why → more ≤ 2 → length u.reads ≤ length s.reads + more
-    → Reaches p (certificate_acts cs) op why
-queue_reaches p s u of tag start begins later cs counted stored why cause nodes_are on queue more op Asks limits two few = record {
+    → length u.slots ≤ most_written (suc (length (certificate_acts cs))) → Reaches p (certificate_acts cs) op why
+queue_reaches p s u of tag start begins later cs counted stored why cause nodes_are on queue more op Asks limits two few written = record {
   reads = reads_reached p s u of tag start begins later cs counted stored why cause nodes_are on more two few;
+  writes = λ is. subst (λ n. n ≤ most_written (suc (length (certificate_acts cs)))) (cause.writes is) written;
   nodes = λ is. let n = limits.nodes is in new_node_needed p s u of tag start begins later cs counted stored why cause nodes_are on op n.0 n.1 is;
 }
 

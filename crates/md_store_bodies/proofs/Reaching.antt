@@ -1,10 +1,9 @@
 -- What a refusal by a limit tells of a pass that holds some lanes: how many words the acts read, and that nodes are wanting.
 use Rattle.std.proofs.Common.{◌≡◌, ◌≤◌, ◌<◌, ◌+◌, ◌++◌, ◌∙◌, ℕ, true, cond, List, [], ◌∷◌, map, length, sym, ap, subst, arith}
-use Rattle.std.specs.List.{All, Contains}
+use Rattle.std.specs.List.{Contains}
 use Rattle.std.proofs.lemmas.List.{append-nil, length-map}
 use Rattle.std.proofs.lemmas.List.Sums.{sum_by-cons}
 use Rattle.md_words.specs.declared.limits.TheConstants.{SET}
-use Rattle.md_words.specs.declared.shape.Shape.{Shape}
 use Rattle.md_history.specs.declared.acts.Act.{Act}
 use Rattle.md_history.specs.declared.acts.Op.{Op}
 use Rattle.md_history.specs.declared.acts.Reply.{Reply}
@@ -57,6 +56,17 @@ nodes_counted t cs counted stored =
     sym (length-map t.nodes (λ (x : OwnNode). x.node)) ∙ ap length order ∙ length-map (all_nodes cs) (λ (x : NewNode). x.node)
     ∙ places (shape_in t) cs counted.going.course.certifies counted.going.course.tidies
 
+-- and no fewer words than it recorded
+pub reads_counted : (t : TxnState) (cs : List Certificate) → HasCountedCertificates t cs → length t.reads ≤ reads (certificate_acts cs)
+reads_counted t cs counted =
+    let P = Contains (recorded_words cs) in
+    let words = map (λ (r : Read). r.word) t.reads in
+    let least = recorded_few (shape_in t) cs counted.going.course.certifies counted.few words
+    (pairs_map (λ (r : Read). r.word) t.reads counted.going.prepared.has.recorded_once)
+    (all_of P words (λ word among. let r = in_map (λ (x : Read). x.word) t.reads word among in subst P r.2 (counted.reads r.0 r.1))) in
+    let count = length-map t.reads (λ (r : Read). r.word) in
+    omega (arith, least, count)
+
 module _ (p : PassState) (s u : TxnState) (of : IsPassOf s.field p) (tag : ℕ) (start : TxnState) (begins : BeginsTransaction p tag start)
     (later : IsLater start s) (cs : List Certificate) (counted : HasCountedCertificates s cs) (stored : s.hand.stored ≡ []) (why : Stop) (cause : HasCause u why)
     -- its nodes are those that were taken
@@ -76,22 +86,11 @@ module _ (p : PassState) (s u : TxnState) (of : IsPassOf s.field p) (tag : ℕ) 
   pub nodes_then : length s.nodes ≡ nodes (certificate_acts cs)
   nodes_then = nodes_counted s cs counted stored
 
-  -- and no fewer words than were recorded before
-  reads_then : length s.reads ≤ reads (certificate_acts cs)
-  reads_then =
-      let P = Contains (recorded_words cs) in
-      let words = map (λ (r : Read). r.word) s.reads in
-      let least = recorded_few (shape_in s) cs counted.going.course.certifies counted.few words
-      (pairs_map (λ (r : Read). r.word) s.reads counted.going.prepared.has.recorded_once)
-      (all_of P words (λ word among. let r = in_map (λ (x : Read). x.word) s.reads word among in subst P r.2 (counted.reads r.0 r.1))) in
-      let count = length-map s.reads (λ (r : Read). r.word) in
-      omega (arith, least, count)
-
   -- so many were recorded, and an operation records two more at most
   pub reads_reached : (more : ℕ) → more ≤ 2 → length u.reads ≤ length s.reads + more → why ≡ Limited Reads → SET ≤ reads (certificate_acts cs) + 2
   reads_reached more two few is =
       let full = cause.reads is in
-      let then = reads_then in
+      let then = reads_counted s cs counted in
       omega (arith, two, few, full, then)
 
   -- an operation wants one more node, if it has a reply that adds

@@ -1,18 +1,21 @@
 -- A transaction of the store runs on over an operation, whether that is answered or refused.
-use Rattle.std.specs.Prelude.{Result, ◌≡◌, ◌≤◌, ◌<◌, ◌⊎◌, ◌++◌, ◌∷◌, ℕ, false, List, [], Some, None, Option, map, option_map}
-use Rattle.std.proofs.Common.{refl, sym, ap, subst, ◌∙◌}
+use Rattle.std.specs.Prelude.{Result, ◌≡◌, ◌≤◌, ◌<◌, ◌⊎◌, ◌++◌, ◌∷◌, ℕ, false, List, [], Some, None, Option, map, length, option_map}
+use Rattle.std.proofs.Common.{suc, refl, sym, ap, subst, ◌∙◌, arith}
 use Rattle.std.proofs.lemmas.Bool.{false≢true}
 use Rattle.std.specs.List.{Contains}
+use Rattle.std.proofs.lemmas.List.{length-append}
 use Rattle.std.proofs.lemmas.List.Elements.{Contains-append_left}
 use Rattle.md_words.specs.declared.shape.Shape.{Shape}
 use Rattle.md_words.specs.Layout.{address, bucket_of}
 use Rattle.md_words.specs.Place.{bucket_head}
 use Rattle.md_words.proofs.Places.{bucket_of_below}
+use Rattle.md_history.specs.declared.acts.Act.{Act}
 use Rattle.md_history.specs.declared.acts.Op.{Op}
 use Rattle.md_history.specs.declared.acts.Reply.{Reply}
 use Rattle.md_history.specs.declared.stops.Stop.{Stop}
 use Rattle.md_history.specs.Act.{act_of}
 use Rattle.md_history.specs.Calls.{Answered, Refusal, Refused}
+use Rattle.md_history.specs.Counts.{nodes as count_nodes}
 use Rattle.md_machine.specs.declared.attempt.Read.{Read}
 use Rattle.md_machine.specs.declared.certificate.Certificate.{Certificate}
 use Rattle.md_machine.specs.Certified.{all_changes}
@@ -32,11 +35,13 @@ use Rattle.md_rule.specs.Views.{FieldView, PassState}
 use Rattle.md_store_law.specs.Store.{store}
 use Rattle.md_store_counts.specs.Few.{NextCharged, RecordsOne, certificate_acts, is_of_map, placed_nexts, read_before, recorded_by}
 use Rattle.md_store_bodies.specs.declared.broken.Broken.{Broken}
-use Rattle.md_store_bodies.specs.Counted.{Exceeds, HasCountedCertificates, Reaches}
+use Rattle.md_store_bodies.specs.Counted.{CountsActs, Exceeds, HasCountedCertificates, Reaches, most_written}
 use Rattle.md_store_bodies.specs.Running.{IsRunning, RunsOn, refusal_of}
 use Rattle.md_store_bodies.specs.Store.{HasAllLanes, IsPassOf}
 use Rattle.md_store_bodies.proofs.Charging.{counted_later, counted_more, list_charged, nodes_more, queue_charged, queue_reads, reads_before}
 use Rattle.md_store_bodies.proofs.ListRefusals.{ListLimits, list_exceeds, list_reaches}
+use Rattle.md_store_bodies.proofs.MostWritten.{WritesTwo, list_writes_two, queue_writes_two, written_more}
+use Rattle.md_store_bodies.proofs.Reaching.{nodes_counted}
 use Rattle.md_store_bodies.proofs.QueueRefusals.{QueueLimits, queue_exceeds, queue_reaches}
 
 -- the head of a key's own bucket, in a shape that has the map
@@ -69,6 +74,8 @@ pub record EndsBy (s u : TxnState) (cs : List Certificate) (op : Op) (reply : Re
   pub few : RecordsOne certificate
   pub recorded : (r : Read) → Contains u.reads r → Contains s.reads r ⊎ Contains (recorded_by certificate) r.word
   pub charged : NextCharged (shape_in s) cs certificate
+  pub acts : u.hand.acts ≡ s.hand.acts
+  pub written : WritesTwo s u
 
 -- it was refused
 pub record IsRefusedSo (s u : TxnState) (cs : List Certificate) (why : Stop) : Type 0 where
@@ -78,18 +85,20 @@ pub record IsRefusedSo (s u : TxnState) (cs : List Certificate) (why : Stop) : T
 
 -- what becomes of a refusal's stop where a limit is reached, or exceeded
 abbrev pub ReachesBy : (before : PassState) (t : TxnState) → Option Refusal → Type 0
-ReachesBy before t r = (refusal : Refusal) → r ≡ Some refusal → IsPassOf t.field before → Reaches before t.hand.acts refusal.op refusal.stop
+ReachesBy before t r = (refusal : Refusal) → r ≡ Some refusal → Reaches before t.hand.acts refusal.op refusal.stop
 
 abbrev pub ExceedsBy : (before : PassState) (t : TxnState) → Option Refusal → Type 0
-ExceedsBy before t r = (refusal : Refusal) → r ≡ Some refusal → IsPassOf t.field before → HasAllLanes t.field before
+ExceedsBy before t r = (refusal : Refusal) → r ≡ Some refusal → HasAllLanes t.field before
     → Exceeds t.field before t.hand.acts refusal.op refusal.stop
 
 -- a later state that is under way runs on
 runs_later : (before : PassState) (t u : TxnState) (r r' : Option Refusal) → IsRunning before t r → IsLater t u → IsUnderWay store u
     → u.stop ≡ option_map (λ x. x.stop) r' → (r' ≡ None → (u.hand.operating ≡ false) × ((cs : List Certificate) × HasCountedCertificates u cs))
+    → (r' ≡ None → CountsActs u)
     → ReachesBy before u r' → ExceedsBy before u r' → RunsOn before t u r'
-runs_later before t u r r' run later going stop between reaches exceeds = record {
+runs_later before t u r r' run later going stop between counts reaches exceeds = record {
   running = record {
+    of = subst (λ (f : FieldView). IsPassOf f before) (sym later.field) run.of;
     start = run.start;
     begins = subst (λ (tag : ℕ). BeginsTransaction before tag run.start) (sym later.tag) run.begins;
     later = later_over run.start t u run.later later;
@@ -97,6 +106,7 @@ runs_later before t u r r' run later going stop between reaches exceeds = record
     stop = stop;
     between = λ none. (between none).0;
     counted = λ none. (between none).1;
+    counts = counts;
     reaches = reaches;
     exceeds = exceeds;
   };
@@ -135,26 +145,58 @@ module _ (before : PassState) (t s : TxnState) (b : Option Broken) (whole : b �
   pub none_stood : s.stop ≡ None
   none_stood = ap (λ (x : TxnState). x.stop) start.is ∙ running.stop
 
+  of_field : IsPassOf s.field before
+  of_field = subst (λ (f : FieldView). IsPassOf f before) (sym (ap (λ (x : TxnState). x.field) start.is)) running.of
+
+  -- few words were written when it was begun
+  stored_none : s.hand.stored ≡ []
+  stored_none = ap (λ (x : TxnState). x.hand.stored) start.is
+
+  written_before : length s.slots ≤ most_written (length (certificate_acts cs))
+  written_before =
+      let acts : t.hand.acts ≡ certificate_acts cs = sym (ap (λ (x : TxnState). x.hand.acts) start.is) ∙ counted.going.course.acts in
+      subst (λ (acts : List Act). length s.slots ≤ most_written (length acts)) acts
+      (subst (λ n. n ≤ most_written (length t.hand.acts)) (sym (ap (λ (x : TxnState). length x.slots) start.is)) (running.counts refl).writes)
+
+  -- and few more may be by what one operation does
+  pub written_after : (u : TxnState) → WritesTwo s u → length u.slots ≤ most_written (suc (length (certificate_acts cs)))
+  written_after u two = written_more s u cs counted stored_none written_before two
+
   pub may_end : (u : TxnState) (op : Op) (reply : Reply) → EndsBy s u cs op reply → MayAnswer store u op reply
   may_end u op reply by = record { earlier = cs; going = by.going; certificate = by.certificate; of = by.of; may = by.may }
+
+  -- once it has ended, its certificates are counted
+  counted_ended : (u v : TxnState) (op : Op) (reply : Reply) → (by : EndsBy s u cs op reply) → IsEnded u v op reply → HasCountedCertificates v (cs ++ by.certificate ∷ [])
+  counted_ended u v op reply by ends =
+      let c = by.certificate in
+      let shape : shape_in u ≡ shape_in s = ap (λ (f : FieldView). f.origin.shape) by.later.field in
+      counted_more s u cs counted c by.recorded v (ends.on.going cs c by.going by.of by.may)
+      (ap (λ (x : TxnState). x.reads) ends.is) (ap shape_in ends.is ∙ shape) by.few by.charged
+
+  -- and so are the words that were written and the nodes that were taken
+  counts_ended : (u v : TxnState) (op : Op) (reply : Reply) → EndsBy s u cs op reply → IsEnded u v op reply → CountsActs v
+  counts_ended u v op reply by ends =
+      let all : HasCountedCertificates v (cs ++ by.certificate ∷ []) = counted_ended u v op reply by ends in
+      let acts : v.hand.acts ≡ certificate_acts cs ++ act_of op reply ∷ [] =
+      ap (λ (x : TxnState). x.hand.acts) ends.is ∙ ap (λ l. l ++ act_of op reply ∷ []) (by.acts ∙ counted.going.course.acts) in
+      let one : length (certificate_acts cs ++ act_of op reply ∷ []) ≡ suc (length (certificate_acts cs)) =
+      (let is = length-append (certificate_acts cs) (act_of op reply ∷ []) in omega (arith, is)) in
+      record {
+        writes = subst (λ n. length v.slots ≤ most_written n) (sym (ap length acts ∙ one))
+            (subst (λ n. n ≤ most_written (suc (length (certificate_acts cs)))) (sym (ap (λ (x : TxnState). length x.slots) ends.is)) (written_after u by.written));
+        nodes = nodes_counted v (cs ++ by.certificate ∷ []) all (ap (λ (x : TxnState). x.hand.stored) ends.is) ∙ ap count_nodes (sym all.going.course.acts);
+      }
 
   pub answered_runs : (u v : TxnState) (op : Op) (reply : Reply) → EndsBy s u cs op reply → IsEnded u v op reply → RunsOn before t v (refusal_of b)
   answered_runs u v op reply by ends =
       let c = by.certificate in
-      let shape : shape_in u ≡ shape_in s = ap (λ (f : FieldView). f.origin.shape) by.later.field in
-      let going = ends.on.going cs c by.going by.of by.may in
+      let all = counted_ended u v op reply by ends in
       subst (λ (x : Option Broken). RunsOn before t v (refusal_of x)) (sym whole)
       (runs_later before t v None None running (later_over t s v start.on.later (later_over s u v by.later ends.on.later))
-      (cs ++ c ∷ [], going)
+      (cs ++ c ∷ [], all.going)
       (ap (λ (x : TxnState). x.stop) ends.is ∙ by.stop)
-      (λ none. (
-        ap (λ (x : TxnState). x.hand.operating) ends.is,
-        (
-          cs ++ c ∷ [],
-          counted_more s u cs counted c by.recorded v going
-              (ap (λ (x : TxnState). x.reads) ends.is) (ap shape_in ends.is ∙ shape) by.few by.charged,
-        ),
-      ))
+      (λ none. (ap (λ (x : TxnState). x.hand.operating) ends.is, (cs ++ c ∷ [], all)))
+      (λ none. counts_ended u v op reply by ends)
       (λ refusal some. absurd (some_none refusal (sym some)))
       (λ refusal some. absurd (some_none refusal (sym some))))
 
@@ -177,10 +219,10 @@ module _ (before : PassState) (t s : TxnState) (b : Option Broken) (whole : b �
 
   -- of an operation that was refused: the acts with it reach the limit, or exceed it
   abbrev pub Reaching : Op → Stop → Type 0
-  Reaching op why = IsPassOf s.field before → Reaches before (certificate_acts cs) op why
+  Reaching op why = Reaches before (certificate_acts cs) op why
 
   abbrev pub Exceeding : Op → Stop → Type 0
-  Exceeding op why = IsPassOf s.field before → HasAllLanes s.field before → Exceeds s.field before (certificate_acts cs) op why
+  Exceeding op why = HasAllLanes s.field before → Exceeds s.field before (certificate_acts cs) op why
 
   pub refused_runs : (u : TxnState) (op : Op) (why : Stop) → IsRefusedSo s u cs why → u.hand.acts ≡ s.hand.acts → Reaching op why → Exceeding op why
       → RunsOn before t u (Some (record { stop = why; op = op }))
@@ -189,19 +231,21 @@ module _ (before : PassState) (t s : TxnState) (b : Option Broken) (whole : b �
       let same_acts : certificate_acts cs ≡ u.hand.acts = sym (acts ∙ counted.going.course.acts) in
       runs_later before t u None (Some r) running (later_over t s u start.on.later was.later) (cs, was.going) was.stop
       (λ none. absurd (some_none r none))
-      (λ refusal some of.
+      (λ none. absurd (some_none r none))
+      (λ refusal some.
       subst (λ (x : Refusal). Reaches before u.hand.acts x.op x.stop) (some_refusal r refusal some)
-      (subst (λ acts. Reaches before acts op why) same_acts
-      (reaches (subst (λ (f : FieldView). IsPassOf f before) was.later.field of))))
-      (λ refusal some of all.
+      (subst (λ acts. Reaches before acts op why) same_acts reaches))
+      (λ refusal some all.
       subst (λ (x : Refusal). Exceeds u.field before u.hand.acts x.op x.stop) (some_refusal r refusal some)
       (subst (λ (f : FieldView). Exceeds f before u.hand.acts op why) (sym was.later.field)
       (subst (λ acts. Exceeds s.field before acts op why) same_acts
-      (exceeds (subst (λ (f : FieldView). IsPassOf f before) was.later.field of)
-      (subst (λ (f : FieldView). HasAllLanes f before) was.later.field all)))))
+      (exceeds (subst (λ (f : FieldView). HasAllLanes f before) was.later.field all)))))
 
   -- operations of lists
-  module _ (u : TxnState) (reads writes nodes : ℕ) (leaves : OperationGoesOn store s u reads writes nodes) where
+  module _ (u : TxnState) (reads writes nodes : ℕ) (leaves : OperationGoesOn store s u reads writes nodes) (two_writes : writes ≤ 2) where
+    list_writes : WritesTwo s u
+    list_writes = list_writes_two s u writes two_writes leaves.writes_few
+
     pub list_ends : (head key : ℕ) (op : ℕ → Op) (reply : Reply) → Answers store s u head key op reply → (map : ℕ) → IsHeadOf (shape_in s) map key head
         → u.stop ≡ None → EndsBy s u cs (op map) reply
     list_ends head key op reply answers map is_head stop =
@@ -222,6 +266,8 @@ module _ (before : PassState) (t s : TxnState) (b : Option Broken) (whole : b �
               (λ n i. subst (λ k. Contains (placed_nexts k (cs ++ c ∷ [])) (next_word k n.node)) (ap (λ (f : FieldView). f.origin.shape) later.field)
               (placed n (subst (λ l. Contains l n) (sym later.nodes.is) (Contains-append_left s.nodes later.nodes.rest n i))))
               (all_changes cs) c.tidy a.charged;
+          acts = leaves.acts;
+          written = list_writes;
         }
 
     pub list_refused : (why : Stop) → u.stop ≡ Some why → IsRefusedSo s u cs why
@@ -233,16 +279,15 @@ module _ (before : PassState) (t s : TxnState) (b : Option Broken) (whole : b �
         → RunsOn before t u (Some (record { stop = why; op = op map_of }))
     list_runs nodes_are two head key op map_of is_head why stop limits =
         let cause = (leaves.on.going cs counted.going).stop why stop in
-        let stored = ap (λ (x : TxnState). x.hand.stored) start.is in
         let over = later_over running.start t s running.later start.on.later in
         refused_runs u (op map_of) why (list_refused why stop) leaves.acts
-        (λ of. list_reaches before s u of t.hand.tag running.start running.begins over cs counted stored why cause nodes_are leaves.on
-        head key op map_of reads limits two leaves.reads_few)
-        (λ of all. list_exceeds before s u of t.hand.tag running.start running.begins over cs counted stored why cause nodes_are leaves.on all
+        (list_reaches before s u of_field t.hand.tag running.start running.begins over cs counted stored_none why cause nodes_are leaves.on
+        head key op map_of reads limits two leaves.reads_few (written_after u list_writes))
+        (λ all. list_exceeds before s u of_field t.hand.tag running.start running.begins over cs counted stored_none why cause nodes_are leaves.on all
         head key op map_of is_head limits)
 
   -- operations of queues
-  module _ (u : TxnState) (reads writes nodes : ℕ) where
+  module _ (u : TxnState) (reads writes nodes : ℕ) (two_writes : writes ≤ 2) where
     pub queue_ends : (op : Op) (reply : Reply) → is_of_map op ≡ false → OperationAnswered store s u op reply reads writes nodes → EndsBy s u cs op reply
     queue_ends op reply other a =
         let by = a.by cs counted.going in
@@ -259,6 +304,8 @@ module _ (before : PassState) (t s : TxnState) (b : Option Broken) (whole : b �
           charged = subst (λ k. NextCharged k cs c) (ap (λ (f : FieldView). f.origin.shape) a.goes.leaves.on.later.field)
               (queue_charged u (read_before cs c) (placed_nexts (shape_in u) (cs ++ c ∷ []))
               (queue_reads s u cs counted c by.recorded (ap is_of_map by.of.0 ∙ other)) (all_changes cs) c.tidy by.charged);
+          acts = a.goes.leaves.acts;
+          written = queue_writes_two s u writes two_writes a.goes.leaves.writes_few;
         }
 
     -- the nodes of u are those that were taken
@@ -266,12 +313,11 @@ module _ (before : PassState) (t s : TxnState) (b : Option Broken) (whole : b �
         → OperationRefused store s u reads writes nodes why → QueueLimits s u cs queue op Asks why → RunsOn before t u (Some (record { stop = why; op = op }))
     queue_runs nodes_are two queue op Asks why r limits =
         let cause = (r.leaves.on.going cs counted.going).stop why r.kept in
-        let stored = ap (λ (x : TxnState). x.hand.stored) start.is in
         let over = later_over running.start t s running.later start.on.later in
         refused_runs u op why (record { going = r.leaves.on.going cs counted.going; later = r.leaves.on.later; stop = r.kept }) r.leaves.acts
-        (λ of. queue_reaches before s u of t.hand.tag running.start running.begins over cs counted stored why cause nodes_are r.leaves.on
-        queue reads op Asks limits two r.leaves.reads_few)
-        (λ of all. queue_exceeds before s u of all t.hand.tag running.start running.begins over cs counted stored none_stood why cause nodes_are r.leaves.on
+        (queue_reaches before s u of_field t.hand.tag running.start running.begins over cs counted stored_none why cause nodes_are r.leaves.on
+        queue reads op Asks limits two r.leaves.reads_few (written_after u (queue_writes_two s u writes two_writes r.leaves.writes_few)))
+        (λ all. queue_exceeds before s u of_field all t.hand.tag running.start running.begins over cs counted stored_none none_stood why cause nodes_are r.leaves.on
         queue op Asks limits)
 
 -- an operation of a queue is begun

@@ -1,5 +1,5 @@
 -- How many words and nodes the acts of a transaction of a store count.
-use Rattle.std.specs.Prelude.{◌≡◌, ◌≤◌, ◌<◌, ◌+◌, Bool, List, [], ◌∷◌, ◌++◌, All, Contains}
+use Rattle.std.specs.Prelude.{◌≡◌, ◌≤◌, ◌<◌, ◌+◌, ◌*◌, ℕ, zero, suc, Bool, List, [], ◌∷◌, ◌++◌, All, Contains, length}
 use Rattle.md_words.specs.declared.limits.TheConstants.{SET}
 use Rattle.md_history.specs.declared.acts.Act.{Act}
 use Rattle.md_history.specs.declared.acts.Op.{Op}
@@ -51,11 +51,24 @@ WriteMore acts = SET < writes acts
 abbrev pub NeedMore : PassState → List Act → Type 0
 NeedMore p acts = nodes_in p < taken_by p + nodes acts
 
+-- The most words that a transaction writes in so many operations, whatever other passes do. Each operation writes at most two
+-- words more, one more for each word that was recorded or written before it, and one more for each node that was taken before
+-- it; and an operation records words and takes nodes at most twice. So five operations write at most 114 words, and six 240.
+abbrev pub most_written : ℕ → ℕ
+most_written zero = 0
+most_written (suc n) = 2 * most_written n + 2 * n + 2
+
+-- between two operations, a transaction has written no more words than its acts may, and has taken the nodes that they take
+pub record CountsActs (t : TxnState) : Type 0 where
+  pub writes : length t.slots ≤ most_written (length t.hand.acts)
+  pub nodes : length t.nodes ≡ nodes t.hand.acts
+
 -- An operation was refused after these acts, in a transaction that began with this pass. By the limit of reads: the acts
--- leave room for at most two words. By the limit of nodes: they and the operation may need more nodes than the pass had
--- left.
+-- leave room for at most two words. By the limit of writes: so many acts and the operation may write as many words as the
+-- limit allows. By the limit of nodes: they and the operation may need more nodes than the pass had left.
 pub record Reaches (before : PassState) (acts : List Act) (op : Op) (why : Stop) : Type 0 where
   pub reads : why ≡ Limit Reads → SET ≤ reads acts + 2
+  pub writes : why ≡ Limit Writes → SET ≤ most_written (suc (length acts))
   pub nodes : why ≡ Limit Nodes → MayGoOn acts op (NeedMore before)
 
 -- the acts and the operation may be right after what the pass has seen, and then they are such

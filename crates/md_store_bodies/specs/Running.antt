@@ -14,17 +14,18 @@ use Rattle.md_nbtc_law.specs.State.{TxnState}
 use Rattle.md_rule.specs.Views.{FieldView, PassState}
 use Rattle.md_store_bodies.specs.declared.broken.Broken.{Broken}
 use Rattle.md_store_law.specs.Store.{store}
-use Rattle.md_store_bodies.specs.Counted.{Exceeds, HasCountedCertificates, Reaches}
+use Rattle.md_store_bodies.specs.Counted.{CountsActs, Exceeds, HasCountedCertificates, Reaches}
 use Rattle.md_store_bodies.specs.Store.{HasAllLanes, IsPassOf}
 
 -- why a transaction stopped, and the operation that was refused first
 abbrev pub refusal_of : Option Broken → Option Refusal
 refusal_of broken = option_map (λ b. record { stop = b.stop; op = b.op }) broken
 
--- a transaction that began with this pass goes on since, and keeps the stop of its refusal. While it has none, no operation
--- is begun between two calls, and its certificates are counted. If the pass is of the field, a limit that refused an
--- operation was reached; and exceeded, if the pass holds all lanes
+-- a transaction that began with this pass of its field goes on since, and keeps the stop of its refusal. While it has none, no
+-- operation is begun between two calls, its certificates are counted, and so are the words that it wrote and the nodes that
+-- it took. A limit that refused an operation was reached; and exceeded, if the pass holds all lanes
 pub record IsRunning (before : PassState) (t : TxnState) (refused : Option Refusal) : Type 0 where
+  pub of : IsPassOf t.field before
   pub start : TxnState
   pub begins : BeginsTransaction before t.hand.tag start
   pub later : IsLater start t
@@ -32,8 +33,9 @@ pub record IsRunning (before : PassState) (t : TxnState) (refused : Option Refus
   pub stop : t.stop ≡ option_map (λ r. r.stop) refused
   pub between : refused ≡ None → t.hand.operating ≡ false
   pub counted : refused ≡ None → (cs : List Certificate) × HasCountedCertificates t cs
-  pub reaches : (refusal : Refusal) → refused ≡ Some refusal → IsPassOf t.field before → Reaches before t.hand.acts refusal.op refusal.stop
-  pub exceeds : (refusal : Refusal) → refused ≡ Some refusal → IsPassOf t.field before → HasAllLanes t.field before
+  pub counts : refused ≡ None → CountsActs t
+  pub reaches : (refusal : Refusal) → refused ≡ Some refusal → Reaches before t.hand.acts refusal.op refusal.stop
+  pub exceeds : (refusal : Refusal) → refused ≡ Some refusal → HasAllLanes t.field before
       → Exceeds t.field before t.hand.acts refusal.op refusal.stop
 
 -- after a call it runs still, on the same field and with the same tag

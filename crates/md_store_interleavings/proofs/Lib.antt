@@ -2,3 +2,5 @@ mod Acted
 mod Ended
 mod Looked
 mod Plays
+mod Results
+mod Transferred

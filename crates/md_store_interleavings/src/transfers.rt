@@ -1,25 +1,27 @@
 //! A transaction as plain code: it is begun, makes its calls, and ends.
 
-ghost use Rattle.std.specs.Prelude.{◌≡◌, ◌<◌, IfErr, IfOk, None};
-ghost use Rattle.md_history.specs.Attempt.{Commits, Stops};
+ghost use Rattle.std.specs.Prelude.{◌≡◌, ◌<◌, None};
 ghost use Rattle.md_history.specs.Playing.{PlaysPart};
-ghost use Rattle.md_history.specs.Script.{Did};
+ghost use Rattle.md_history.specs.Script.{Did, Follows};
 ghost use Rattle.md_nbtc_law.specs.State.{shape_in};
 ghost use Rattle.md_nbtc.specs.State.{state};
 ghost use Rattle.md_store_interleavings.specs.Moving.{Moved, move_one, rest_of, sum_of};
-ghost use Rattle.md_store.specs.Store.{IsPassOf, front_in};
+ghost use Rattle.md_store.specs.Attempted.{IsAttempted, attempt_of};
+ghost use Rattle.md_store.specs.Store.{IsPassOf};
 ghost use Rattle.md_store.specs.Transactions.{IsBegun};
 
 use md_history::{Stop, TxCalls};
 use md_nbtc::{Sets, Txn};
 use md_rule::Pass;
-use md_store::{Store, StoreTxn};
+use md_store::{Store, StoreTxn, transactions_end};
 use md_store_law::StoreTheory;
 use std::snapshot::Snapshot;
 
 /// Moves 1 from the value of a key of map 0 to that of another, unless the first one is 0, in a
 /// transaction with a tag. An absent value counts as 0. Returns what both keys had. The error says
 /// why the transaction took no effect. `pass` and `sets` are those of a `StorePass`.
+///
+/// It promises what `Store::attempt` promises of a body whose script is `move_one`.
 pub fn transfer(
     store: &Store,
     pass: &mut Pass<StoreTheory>,
@@ -30,11 +32,10 @@ pub fn transfer(
 ) -> Result<(u64, u64), Stop>
     requires of { IsPassOf store.now pass.old }
     requires map { 0 < store.now.origin.shape.maps }
-    ensures of { IsPassOf store.now pass.new }
-    ensures committed { IfOk result (λ had.
-        Commits (Did (move_one from to)) tag had (front_in pass.old) (front_in pass.new)) }
-    ensures stopped { IfErr result (λ why. Stops tag (front_in pass.old) (front_in pass.new)) }
+    ensures { IsAttempted store.now pass.old pass.new tag (Did (move_one from to))
+        (Follows (move_one from to)) (attempt_of result) }
 {
+    transactions_end();
     let before = Snapshot::of(&*pass);
     let begun = match Store::begin(pass, store, tag) {
         Ok(begun) => begun,
@@ -76,7 +77,7 @@ fn make_calls<'a>(
 }
 
 // Moves 1.
-fn move_one<T: TxCalls>(t: &mut T, from: u64, to: u64) -> Result<(u64, u64), Stop>
+pub(crate) fn move_one<T: TxCalls>(t: &mut T, from: u64, to: u64) -> Result<(u64, u64), Stop>
     requires going { T.stop t.old ≡ None }
     requires map { 0 < T.maps (T.kept t.old) }
     ensures plays { PlaysPart (move_one from to) result T.acts T.stop t.old t.new }

@@ -58,6 +58,7 @@ mod at_random;
 mod limits;
 mod overlaps;
 mod puts;
+mod receipts;
 mod rows;
 mod stalled;
 

@@ -42,7 +42,7 @@ returns-then-found-ne0-clause-none c =
 pub returns-in-Err-clause-none : goal.returns-in-Err-clause-none
 returns-in-Err-clause-none c =
     exchange_none c.args.field.now.origin c.ticket_word-word.result c.load.result (word_of c.of-found.result) c.of-found.result.value c.in-Err.field-0 c.args.pass.now.view c.load.new.self.view c.renew.new.pass.view
-    c.load.ensures.step c.in-Err.ensures.step.0 c.in-Err.ensures.step.1
+    c.ticket_word-word.ensures.place c.of-found.ensures.inverse c.load.ensures.step c.in-Err.ensures.step.0 c.in-Err.ensures.step.1
 
 pub returns-in-Ok-clause-keeps : goal.returns-in-Ok-clause-keeps
 returns-in-Ok-clause-keeps c n below =

@@ -1,4 +1,4 @@
--- One step alone raised a word from a count.
+-- The steps that raised a word from one count are equal, and so are the steps before them.
 use Rattle.std.specs.Prelude.{◌≡◌, ◌<◌, ℕ, List}
 use mathlib.Core.Option.{some}
 use lib.ListN.{get_elem?}

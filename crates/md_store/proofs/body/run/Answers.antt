@@ -5,7 +5,6 @@ use Rattle.md_nbtc_law.specs.State.{TxnState}
 use Rattle.md_nbtc.specs.State.{state}
 use Rattle.md_rule.specs.Views.{FieldView}
 use Rattle.md_store_bodies.specs.Running.{BreaksOff, IsRunning, Kept}
-use Rattle.md_store_bodies.specs.Store.{IsPassOf}
 use Rattle.md_store.specs.Transactions.{acts_of}
 use Rattle.md_store.proofs.BreakingOff.{breaks_off, err_more, ok_more}
 use Rattle.md_store.proofs.Transactions.{runs_as}
@@ -15,11 +14,6 @@ pub go-requires-clause-fits : goal.go-requires-clause-fits
 go-requires-clause-fits g c =
     let field = ap (λ (k : Kept). k.field) c.over-calls.ensures.kept in
     subst (λ (f : FieldView). g.B.Body.fits c.args.body.now f.origin.shape.maps f.origin.shape.queues) (sym field) c.requires.fits
-
-pub done-requires : goal.done-requires
-done-requires g c =
-    let kept = c.go.ensures.kept ∙ c.over-calls.ensures.kept in
-    subst (λ (k : Kept). IsPassOf k.field k.before) (sym kept) c.requires.of
 
 pub returns-clause-pass : goal.returns-clause-pass
 returns-clause-pass g c = c.done.ensures.pass ∙ ap (λ (k : Kept). k.name) (c.go.ensures.kept ∙ c.over-calls.ensures.kept)

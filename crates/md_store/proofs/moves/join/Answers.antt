@@ -9,6 +9,10 @@ pub returns-clause-begun : goal.returns-clause-begun
 returns-clause-begun c =
     (join_so c.args.field.now c.args.pass.now c.args.other c.join.new.self c.requires.of c.requires.of_other c.lanes.ensures c.lanes-2.ensures c.join.ensures.joined c.join.ensures.step).begun
 
+pub returns-clause-nodes : goal.returns-clause-nodes
+returns-clause-nodes c =
+    (join_so c.args.field.now c.args.pass.now c.args.other c.join.new.self c.requires.of c.requires.of_other c.lanes.ensures c.lanes-2.ensures c.join.ensures.joined c.join.ensures.step).nodes
+
 pub returns-clause-of : goal.returns-clause-of
 returns-clause-of c =
     (join_so c.args.field.now c.args.pass.now c.args.other c.join.new.self c.requires.of c.requires.of_other c.lanes.ensures c.lanes-2.ensures c.join.ensures.joined c.join.ensures.step).of

@@ -36,7 +36,7 @@ end_op-requires-clause-may c =
     let none = none_stood c.args.before.now.value t s c.args.broken.now c.in_default.is c.requires.running start in
     let is_head = is_head_of (shape_in t) (shape_in s) c.shape.result.now c.args.map c.args.key
     c.map_head-head.result (ap shape_in c.start_op.ensures.begun) c.shape.ensures c.requires.map c.map_head-head.ensures.place in
-    let ends = list_ends c.args.before.now.value t s c.args.broken.now c.in_default.is c.requires.running start u 1 0 0 c.look_up.ensures.leaves
+    let ends = list_ends c.args.before.now.value t s c.args.broken.now c.in_default.is c.requires.running start u 1 0 0 c.look_up.ensures.leaves (omega arith)
     c.map_head-head.result c.args.key (λ map. Get map c.args.key) (Value c.in-Ok.value) c.in-Ok.ensures.answer c.args.map is_head
     (unstopped s u (Ok c.in-Ok.value) (HasStopButNodes u (Ok c.in-Ok.value)) none c.in-Ok.ensures.stops) in
     may_end c.args.before.now.value t s c.args.broken.now c.in_default.is c.requires.running start u (Get c.args.map c.args.key) (Value c.in-Ok.value) ends
@@ -52,7 +52,7 @@ returns-in-Ok-clause-makes c =
       runs = (
           let is_head = is_head_of (shape_in t) (shape_in s) c.shape.result.now c.args.map c.args.key
           c.map_head-head.result (ap shape_in c.start_op.ensures.begun) c.shape.ensures c.requires.map c.map_head-head.ensures.place in
-          let ends = list_ends c.args.before.now.value t s c.args.broken.now c.in_default.is c.requires.running start u 1 0 0 c.look_up.ensures.leaves
+          let ends = list_ends c.args.before.now.value t s c.args.broken.now c.in_default.is c.requires.running start u 1 0 0 c.look_up.ensures.leaves (omega arith)
           c.map_head-head.result c.args.key (λ map. Get map c.args.key) (Value c.in-Ok.value) c.in-Ok.ensures.answer c.args.map is_head
           (unstopped s u (Ok c.in-Ok.value) (HasStopButNodes u (Ok c.in-Ok.value)) none c.in-Ok.ensures.stops) in
           answered_runs c.args.before.now.value t s c.args.broken.now c.in_default.is c.requires.running start u (state c.end_op.new.self)
@@ -75,7 +75,7 @@ returns-in-Err-clause-makes c =
       runs = (
           let is_head = is_head_of (shape_in t) (shape_in s) c.shape.result.now c.args.map c.args.key
           c.map_head-head.result (ap shape_in c.start_op.ensures.begun) c.shape.ensures c.requires.map c.map_head-head.ensures.place in
-          list_runs c.args.before.now.value t s c.args.broken.now c.in_default.is c.requires.running start u 1 0 0 c.look_up.ensures.leaves refl (omega arith)
+          list_runs c.args.before.now.value t s c.args.broken.now c.in_default.is c.requires.running start u 1 0 0 c.look_up.ensures.leaves (omega arith) refl (omega arith)
           c.map_head-head.result c.args.key (λ map. Get map c.args.key) c.args.map is_head c.in-Err.stop stops.0 (record {
             reads = λ is. c.in-Err.ensures.no_read none (ap Err is);
             writes = λ is. needs_slot (c.in-Err.ensures.no_slot none (ap Err is));

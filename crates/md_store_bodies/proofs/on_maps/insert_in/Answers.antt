@@ -35,7 +35,7 @@ end_op-requires-clause-may c =
     let none = none_stood c.args.before.now.value t s c.args.broken.now c.in_default.is c.requires.running start in
     let is_head = is_head_of (shape_in t) (shape_in s) c.shape.result.now c.args.map c.args.key
     c.map_head-head.result (ap shape_in c.start_op.ensures.begun) c.shape.ensures c.requires.map c.map_head-head.ensures.place in
-    let ends = list_ends c.args.before.now.value t s c.args.broken.now c.in_default.is c.requires.running start u 1 1 1 c.insert.ensures.leaves
+    let ends = list_ends c.args.before.now.value t s c.args.broken.now c.in_default.is c.requires.running start u 1 1 1 c.insert.ensures.leaves (omega arith)
     c.map_head-head.result c.args.key (λ map. Insert map c.args.key c.args.value) (Flag c.in-Ok.absent) c.in-Ok.ensures.answer c.args.map is_head
     (unstopped s u (Ok c.in-Ok.absent) (HasStop u (Ok c.in-Ok.absent)) none c.in-Ok.ensures.stops) in
     may_end c.args.before.now.value t s c.args.broken.now c.in_default.is c.requires.running start u (Insert c.args.map c.args.key c.args.value) (Flag c.in-Ok.absent) ends
@@ -51,7 +51,7 @@ returns-in-Ok-clause-makes c =
       runs = (
           let is_head = is_head_of (shape_in t) (shape_in s) c.shape.result.now c.args.map c.args.key
           c.map_head-head.result (ap shape_in c.start_op.ensures.begun) c.shape.ensures c.requires.map c.map_head-head.ensures.place in
-          let ends = list_ends c.args.before.now.value t s c.args.broken.now c.in_default.is c.requires.running start u 1 1 1 c.insert.ensures.leaves
+          let ends = list_ends c.args.before.now.value t s c.args.broken.now c.in_default.is c.requires.running start u 1 1 1 c.insert.ensures.leaves (omega arith)
           c.map_head-head.result c.args.key (λ map. Insert map c.args.key c.args.value) (Flag c.in-Ok.absent) c.in-Ok.ensures.answer c.args.map is_head
           (unstopped s u (Ok c.in-Ok.absent) (HasStop u (Ok c.in-Ok.absent)) none c.in-Ok.ensures.stops) in
           answered_runs c.args.before.now.value t s c.args.broken.now c.in_default.is c.requires.running start u (state c.end_op.new.self)
@@ -74,7 +74,7 @@ returns-in-Err-clause-makes c =
       runs = (
           let is_head = is_head_of (shape_in t) (shape_in s) c.shape.result.now c.args.map c.args.key
           c.map_head-head.result (ap shape_in c.start_op.ensures.begun) c.shape.ensures c.requires.map c.map_head-head.ensures.place in
-          list_runs c.args.before.now.value t s c.args.broken.now c.in_default.is c.requires.running start u 1 1 1 c.insert.ensures.leaves refl (omega arith)
+          list_runs c.args.before.now.value t s c.args.broken.now c.in_default.is c.requires.running start u 1 1 1 c.insert.ensures.leaves (omega arith) refl (omega arith)
           c.map_head-head.result c.args.key (λ map. Insert map c.args.key c.args.value) c.args.map is_head c.in-Err.stop stops (record {
             reads = λ is. c.in-Err.ensures.no_read none (ap Err is);
             writes = λ is. c.in-Err.ensures.no_slot none (ap Err is);

@@ -4,6 +4,7 @@ use Rattle.md_history.specs.declared.acts.Reply.TheVariants.{Value}
 use Rattle.md_nbtc.specs.State.{state}
 use Rattle.md_queue.specs.Operations.{dequeue_reads, dequeue_writes}
 use Rattle.md_queue.specs.Refusals.{AsksFor}
+use Rattle.md_store_bodies.proofs.MostWritten.{dequeue_few}
 use Rattle.md_store_bodies.proofs.QueueRefusals.{asks_itself}
 use Rattle.md_store_bodies.proofs.Runs.{IsStarted, answered_runs, counted, cs, may_end, none_stood, queue_begun, queue_ends, queue_runs, stands_not}
 use Rattle.md_store_bodies.proofs.on_queues.dequeue_in.Goals as goal
@@ -20,7 +21,7 @@ end_op-requires-clause-may c =
     let s = state c.start_op.new.self in
     let u = state c.dequeue.new.tx in
     let start : IsStarted t s = record { on = c.start_op.ensures.on; is = c.start_op.ensures.begun } in
-    let ends = queue_ends c.args.before.now.value t s c.args.broken.now c.in_default.is c.requires.running start u (dequeue_reads c.in-Ok.value) (dequeue_writes c.in-Ok.value) 0 (Dequeue c.args.queue) (Value c.in-Ok.value) refl c.in-Ok.ensures.answer in
+    let ends = queue_ends c.args.before.now.value t s c.args.broken.now c.in_default.is c.requires.running start u (dequeue_reads c.in-Ok.value) (dequeue_writes c.in-Ok.value) 0 (dequeue_few c.in-Ok.value) (Dequeue c.args.queue) (Value c.in-Ok.value) refl c.in-Ok.ensures.answer in
     may_end c.args.before.now.value t s c.args.broken.now c.in_default.is c.requires.running start u (Dequeue c.args.queue) (Value c.in-Ok.value) ends
 
 pub returns-in-Ok-clause-makes : goal.returns-in-Ok-clause-makes
@@ -29,7 +30,7 @@ returns-in-Ok-clause-makes c =
     let s = state c.start_op.new.self in
     let u = state c.dequeue.new.tx in
     let start : IsStarted t s = record { on = c.start_op.ensures.on; is = c.start_op.ensures.begun } in
-    let ends = queue_ends c.args.before.now.value t s c.args.broken.now c.in_default.is c.requires.running start u (dequeue_reads c.in-Ok.value) (dequeue_writes c.in-Ok.value) 0 (Dequeue c.args.queue) (Value c.in-Ok.value) refl c.in-Ok.ensures.answer in
+    let ends = queue_ends c.args.before.now.value t s c.args.broken.now c.in_default.is c.requires.running start u (dequeue_reads c.in-Ok.value) (dequeue_writes c.in-Ok.value) 0 (dequeue_few c.in-Ok.value) (Dequeue c.args.queue) (Value c.in-Ok.value) refl c.in-Ok.ensures.answer in
     record {
       runs = answered_runs c.args.before.now.value t s c.args.broken.now c.in_default.is c.requires.running start u (state c.end_op.new.self)
           (Dequeue c.args.queue) (Value c.in-Ok.value) ends (record { on = c.end_op.ensures.on; is = c.end_op.ensures.ended });
@@ -45,7 +46,7 @@ returns-in-Err-clause-makes c =
     let start : IsStarted t s = record { on = c.start_op.ensures.on; is = c.start_op.ensures.begun } in
     let none = none_stood c.args.before.now.value t s c.args.broken.now c.in_default.is c.requires.running start in
     record {
-      runs = queue_runs c.args.before.now.value t s c.args.broken.now c.in_default.is c.requires.running start u 2 2 0 refl (omega arith)
+      runs = queue_runs c.args.before.now.value t s c.args.broken.now c.in_default.is c.requires.running start u 2 2 0 (omega arith) refl (omega arith)
           c.args.queue (Dequeue c.args.queue) (AsksFor (Dequeue c.args.queue)) c.in-Err.stop c.in-Err.ensures.stop.refused (record {
             other = refl;
             reads = λ is alone. (λ op. asks_itself (Dequeue c.args.queue) op refl, c.in-Err.ensures.reads is alone (cs c.args.before.now.value t s c.args.broken.now c.in_default.is c.requires.running start) (counted c.args.before.now.value t s c.args.broken.now c.in_default.is c.requires.running start).going);

@@ -18,7 +18,7 @@ end_op-requires-clause-may c =
     let s = state c.start_op.new.self in
     let u = state c.enqueue.new.tx in
     let start : IsStarted t s = record { on = c.start_op.ensures.on; is = c.start_op.ensures.begun } in
-    let ends = queue_ends c.args.before.now.value t s c.args.broken.now c.in_default.is c.requires.running start u 0 2 1 (Enqueue c.args.queue c.args.value) Nothing refl c.in-Ok.ensures.answer in
+    let ends = queue_ends c.args.before.now.value t s c.args.broken.now c.in_default.is c.requires.running start u 0 2 1 (omega arith) (Enqueue c.args.queue c.args.value) Nothing refl c.in-Ok.ensures.answer in
     may_end c.args.before.now.value t s c.args.broken.now c.in_default.is c.requires.running start u (Enqueue c.args.queue c.args.value) Nothing ends
 
 pub returns-in-Ok-clause-makes : goal.returns-in-Ok-clause-makes
@@ -27,7 +27,7 @@ returns-in-Ok-clause-makes c =
     let s = state c.start_op.new.self in
     let u = state c.enqueue.new.tx in
     let start : IsStarted t s = record { on = c.start_op.ensures.on; is = c.start_op.ensures.begun } in
-    let ends = queue_ends c.args.before.now.value t s c.args.broken.now c.in_default.is c.requires.running start u 0 2 1 (Enqueue c.args.queue c.args.value) Nothing refl c.in-Ok.ensures.answer in
+    let ends = queue_ends c.args.before.now.value t s c.args.broken.now c.in_default.is c.requires.running start u 0 2 1 (omega arith) (Enqueue c.args.queue c.args.value) Nothing refl c.in-Ok.ensures.answer in
     record {
       runs = answered_runs c.args.before.now.value t s c.args.broken.now c.in_default.is c.requires.running start u (state c.end_op.new.self)
           (Enqueue c.args.queue c.args.value) Nothing ends (record { on = c.end_op.ensures.on; is = c.end_op.ensures.ended });
@@ -43,7 +43,7 @@ returns-in-Err-clause-makes c =
     let start : IsStarted t s = record { on = c.start_op.ensures.on; is = c.start_op.ensures.begun } in
     let none = none_stood c.args.before.now.value t s c.args.broken.now c.in_default.is c.requires.running start in
     record {
-      runs = queue_runs c.args.before.now.value t s c.args.broken.now c.in_default.is c.requires.running start u 0 2 1 refl (omega arith)
+      runs = queue_runs c.args.before.now.value t s c.args.broken.now c.in_default.is c.requires.running start u 0 2 1 (omega arith) refl (omega arith)
           c.args.queue (Enqueue c.args.queue c.args.value) (AsksFor (Enqueue c.args.queue c.args.value)) c.in-Err.stop c.in-Err.ensures.stop (record {
             other = refl;
             reads = λ is alone. absurd (stands_not none (c.in-Err.ensures.no_reads is));

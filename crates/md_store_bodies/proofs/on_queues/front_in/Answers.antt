@@ -20,7 +20,7 @@ end_op-requires-clause-may c =
     let s = state c.start_op.new.self in
     let u = state c.look.new.txn in
     let start : IsStarted t s = record { on = c.start_op.ensures.on; is = c.start_op.ensures.begun } in
-    let ends = queue_ends c.args.before.now.value t s c.args.broken.now c.in_default.is c.requires.running start u (front_reads c.in-Ok.value) 0 0 (Front c.args.queue) (Value c.in-Ok.value) refl c.in-Ok.ensures.answer in
+    let ends = queue_ends c.args.before.now.value t s c.args.broken.now c.in_default.is c.requires.running start u (front_reads c.in-Ok.value) 0 0 (omega arith) (Front c.args.queue) (Value c.in-Ok.value) refl c.in-Ok.ensures.answer in
     may_end c.args.before.now.value t s c.args.broken.now c.in_default.is c.requires.running start u (Front c.args.queue) (Value c.in-Ok.value) ends
 
 pub returns-in-Ok-clause-makes : goal.returns-in-Ok-clause-makes
@@ -29,7 +29,7 @@ returns-in-Ok-clause-makes c =
     let s = state c.start_op.new.self in
     let u = state c.look.new.txn in
     let start : IsStarted t s = record { on = c.start_op.ensures.on; is = c.start_op.ensures.begun } in
-    let ends = queue_ends c.args.before.now.value t s c.args.broken.now c.in_default.is c.requires.running start u (front_reads c.in-Ok.value) 0 0 (Front c.args.queue) (Value c.in-Ok.value) refl c.in-Ok.ensures.answer in
+    let ends = queue_ends c.args.before.now.value t s c.args.broken.now c.in_default.is c.requires.running start u (front_reads c.in-Ok.value) 0 0 (omega arith) (Front c.args.queue) (Value c.in-Ok.value) refl c.in-Ok.ensures.answer in
     record {
       runs = answered_runs c.args.before.now.value t s c.args.broken.now c.in_default.is c.requires.running start u (state c.end_op.new.self)
           (Front c.args.queue) (Value c.in-Ok.value) ends (record { on = c.end_op.ensures.on; is = c.end_op.ensures.ended });
@@ -46,7 +46,7 @@ returns-in-Err-clause-makes c =
     let start : IsStarted t s = record { on = c.start_op.ensures.on; is = c.start_op.ensures.begun } in
     let none = none_stood c.args.before.now.value t s c.args.broken.now c.in_default.is c.requires.running start in
     record {
-      runs = queue_runs c.args.before.now.value t s c.args.broken.now c.in_default.is c.requires.running start u 2 0 0 refl (omega arith)
+      runs = queue_runs c.args.before.now.value t s c.args.broken.now c.in_default.is c.requires.running start u 2 0 0 (omega arith) refl (omega arith)
           c.args.queue (Front c.args.queue) (AsksFor (Front c.args.queue)) c.in-Err.stop c.in-Err.ensures.stop.refused (record {
             other = refl;
             reads = λ is alone. (λ op. asks_itself (Front c.args.queue) op refl, c.in-Err.ensures.reads is alone (cs c.args.before.now.value t s c.args.broken.now c.in_default.is c.requires.running start) (counted c.args.before.now.value t s c.args.broken.now c.in_default.is c.requires.running start).going);

@@ -18,7 +18,7 @@ end_op-requires-clause-may c =
     let s = state c.start_op.new.self in
     let u = state c.line.new.tx in
     let start : IsStarted t s = record { on = c.start_op.ensures.on; is = c.start_op.ensures.begun } in
-    let ends = queue_ends c.args.before.now.value t s c.args.broken.now c.in_default.is c.requires.running start u (line_reads c.args.n c.in-Ok.line) 0 0 (TheLine c.args.queue c.args.n) (InLine c.in-Ok.line) refl c.in-Ok.ensures.answer in
+    let ends = queue_ends c.args.before.now.value t s c.args.broken.now c.in_default.is c.requires.running start u (line_reads c.args.n c.in-Ok.line) 0 0 (omega arith) (TheLine c.args.queue c.args.n) (InLine c.in-Ok.line) refl c.in-Ok.ensures.answer in
     may_end c.args.before.now.value t s c.args.broken.now c.in_default.is c.requires.running start u (TheLine c.args.queue c.args.n) (InLine c.in-Ok.line) ends
 
 pub returns-in-Ok-clause-makes : goal.returns-in-Ok-clause-makes
@@ -27,7 +27,7 @@ returns-in-Ok-clause-makes c =
     let s = state c.start_op.new.self in
     let u = state c.line.new.tx in
     let start : IsStarted t s = record { on = c.start_op.ensures.on; is = c.start_op.ensures.begun } in
-    let ends = queue_ends c.args.before.now.value t s c.args.broken.now c.in_default.is c.requires.running start u (line_reads c.args.n c.in-Ok.line) 0 0 (TheLine c.args.queue c.args.n) (InLine c.in-Ok.line) refl c.in-Ok.ensures.answer in
+    let ends = queue_ends c.args.before.now.value t s c.args.broken.now c.in_default.is c.requires.running start u (line_reads c.args.n c.in-Ok.line) 0 0 (omega arith) (TheLine c.args.queue c.args.n) (InLine c.in-Ok.line) refl c.in-Ok.ensures.answer in
     record {
       runs = answered_runs c.args.before.now.value t s c.args.broken.now c.in_default.is c.requires.running start u (state c.end_op.new.self)
           (TheLine c.args.queue c.args.n) (InLine c.in-Ok.line) ends (record { on = c.end_op.ensures.on; is = c.end_op.ensures.ended });
@@ -43,7 +43,7 @@ returns-in-Err-clause-makes c =
     let start : IsStarted t s = record { on = c.start_op.ensures.on; is = c.start_op.ensures.begun } in
     let none = none_stood c.args.before.now.value t s c.args.broken.now c.in_default.is c.requires.running start in
     record {
-      runs = queue_runs c.args.before.now.value t s c.args.broken.now c.in_default.is c.requires.running start u 2 0 0 refl (omega arith)
+      runs = queue_runs c.args.before.now.value t s c.args.broken.now c.in_default.is c.requires.running start u 2 0 0 (omega arith) refl (omega arith)
           c.args.queue (TheLine c.args.queue c.args.n) (AsksLine c.args.queue c.args.n) c.in-Err.stop c.in-Err.ensures.stop.refused (record {
             other = refl;
             reads = λ is alone. ((λ op asks. line_by_line c.args.queue asks.0 c.args.n op asks.2 asks.3), c.in-Err.ensures.reads is alone (cs c.args.before.now.value t s c.args.broken.now c.in_default.is c.requires.running start) (counted c.args.before.now.value t s c.args.broken.now c.in_default.is c.requires.running start).going);

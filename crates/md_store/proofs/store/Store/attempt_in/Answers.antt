@@ -1,7 +1,6 @@
 use Rattle.std.proofs.Common.{Err, None, ap, refl, subst, sym, ◌∙◌}
 use Rattle.md_history.specs.declared.stops.Attempt.TheVariants.{Committed, Stopped as IsStopped}
 use Rattle.md_history.specs.declared.stops.Stop.TheVariants.{Conflict}
-use Rattle.md_machine.specs.declared.attempt.Hand.{Hand}
 use Rattle.md_nbtc_law.specs.Ending.{BeginsNot}
 use Rattle.md_nbtc_law.specs.State.{TxnState}
 use Rattle.md_nbtc.specs.State.{begun_state, state}
@@ -68,7 +67,7 @@ returns-in-Ok-commit g c =
     let same = c.pass-in-Ok-out-1.given.1 (sym (c.run-txn.ensures.pass ∙ c.with-txn.ensures.pass ∙ c.in-Ok.ensures.pass)) in
     subst (λ (q : PassState). IsAttempted f p q c.args.tag (g.B.Body.did c.args.body.now) (g.B.Body.makes c.args.body.now) (Committed c.in-Ok-out.reply)) (sym same)
     (ends_committed f p c.requires.of c.args.tag (g.B.Body.did c.args.body.now) (g.B.Body.makes c.args.body.now) c.commit.new.self.0 u on
-    running c.in-Ok-out.reply told.1 c.in-Ok-commit.ensures.committed)
+    running refl c.in-Ok-out.reply told.1 c.in-Ok-commit.ensures.committed)
 
 pub returns-in-Err-commit : goal.returns-in-Err-commit
 returns-in-Err-commit g c =

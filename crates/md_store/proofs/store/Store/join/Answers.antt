@@ -7,6 +7,9 @@ use Rattle.md_store.proofs.store.Store.join.Goals as goal
 pub returns-clause-begun : goal.returns-clause-begun
 returns-clause-begun c = search rules depth 1
 
+pub returns-clause-nodes : goal.returns-clause-nodes
+returns-clause-nodes c = search rules depth 1
+
 pub returns-clause-joined : goal.returns-clause-joined
 returns-clause-joined c =
     subst (λ (q : PassState). Joins (front_in c.args.pass.now) (front_in q) (front_in c.join.new.pass)) c.other.view_is
