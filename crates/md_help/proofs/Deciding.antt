@@ -17,7 +17,7 @@ use Rattle.md_machine.specs.declared.pass.PassView.{PassView}
 use Rattle.md_machine.specs.declared.step.Kind.{Kind}
 use Rattle.md_machine.specs.declared.step.Kind.TheVariants.{Abort, Commit}
 use Rattle.md_machine.specs.declared.step.Step.{Step}
-use Rattle.md_machine.specs.Event.{abort, commit}
+use Rattle.md_machine.specs.Event.{Acts, abort, commit}
 use Rattle.md_machine.specs.Machine.{Machine, attempt_of, content, shape_of}
 use Rattle.md_machine.specs.Meaning.{Meaning}
 use Rattle.md_machine.specs.Stepping.{exchanged, stepped}
@@ -25,6 +25,7 @@ use Rattle.md_machine.specs.Trail.{Finds, SomeStepOf, is_store, segments}
 use Rattle.md_machine.specs.clauses.words.Statuses.{AttemptCame, StatusCame, StatusesCame, leads_to}
 use Rattle.md_machine.specs.events.Decide.{FoundMoved, FoundRead, MayAbort, MayCommit, SinceStatus, after_abort, after_commit, decided_word}
 use Rattle.md_machine.specs.events.Uninstall.{IsDecided}
+use Rattle.md_rule.specs.Admitted.{Admitted}
 use Rattle.md_rule.specs.Steps.{EventOf, May, SteppedFrom}
 use Rattle.md_rule.specs.Views.{Origin}
 use Rattle.md_rule.proofs.Moves.{is_kept}
@@ -90,12 +91,13 @@ found_read shape p since desc serial i stood f = (
 pub validated_at : (shape : Shape) (desc : ℕ) (w : StatusWord) (status : ℕ) (stood b : Bool) (p q : PassView) → w ≡ status_parts status → stood ≡ b → Validated shape desc w.reads stood p q → Validated shape desc (reads_of status) b p q
 validated_at shape desc w status stood b p q is e v = subst (λ n. Validated shape desc n b p q) (ap (λ (x : StatusWord). x.reads) is) (subst (λ x. Validated shape desc w.reads x p q) e v)
 
-pub may_commit_by : (shape : Shape) (p q : PassView) (desc status : ℕ) → desc < desc_count shape → status_of status ≡ InProg → MetStatus shape p desc status → Validated shape desc (reads_of status) true p q → MayCommit shape q desc status
-may_commit_by shape p q desc status exists prog met v = record {
+pub may_commit_by : (shape : Shape) (words : List ℕ) (p q : PassView) (desc status : ℕ) → desc < desc_count shape → status_of status ≡ InProg → MetStatus shape p desc status
+    → Validated shape desc (reads_of status) true p q → MayCommit shape words q desc status
+may_commit_by shape words p q desc status exists prog met v = record {
   exists = exists;
   in_progress = prog;
   since = since_met shape q desc status (met_after shape v.steps p q desc status v.goes met);
-  stood = λ i h. found_read shape q (met.later ++ v.steps) desc (serial_of status) i true (finds_right shape desc i true met.later v.steps (v.finds i h));
+  stood = inl (λ i h. found_read shape q (met.later ++ v.steps) desc (serial_of status) i true (finds_right shape desc i true met.later v.steps (v.finds i h)));
 }
 
 pub moved_by : (shape : Shape) (p q : PassView) (desc status : ℕ) → status_of status ≡ InProg → MetStatus shape p desc status → Validated shape desc (reads_of status) false p q → FoundMoved shape q desc status
@@ -118,10 +120,15 @@ met_made shape desc held left kind p q none m = record {
 }
 
 module _ (M : Meaning) (o : Origin) where
-  -- the conditions are of the view and the shape alone
-  pub may_commit : (view : PassView) (desc from : ℕ) → MayCommit o.shape view desc from → May M o (λ pass. commit pass desc from) view
-  may_commit view desc from may m a pass acts = (after_commit m pass view desc from, (view, acts, subst (λ (s : Shape). MayCommit s view desc from) (sym a.shape) may, refl))
+  -- a condition that holds in each machine of the field in which the pass stands so
+  pub may_commit : (view : PassView) (desc from : ℕ) → ((m : Machine) → Admitted M o m → (pass : ℕ) → Acts m pass view → MayCommit o.shape m.words view desc from)
+      → May M o (λ pass. commit pass desc from) view
+  may_commit view desc from may m a pass acts = (
+    after_commit m pass view desc from,
+    (view, acts, subst (λ (s : Shape). MayCommit s m.words view desc from) (sym a.shape) (may m a pass acts), refl),
+  )
 
+  -- one that is of the view and the shape alone
   pub may_abort : (view : PassView) (desc from : ℕ) → MayAbort o.shape view desc from → May M o (λ pass. abort pass desc from) view
   may_abort view desc from may m a pass acts = (after_abort m pass view desc from, (view, acts, subst (λ (s : Shape). MayAbort s view desc from) (sym a.shape) may, refl))
 

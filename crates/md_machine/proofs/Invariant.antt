@@ -247,7 +247,7 @@ module _ (M : Meaning) where
       let move : (P : Shape → List ℕ → Type 0) → Shaped P = λ P h. subst (λ (o : Opening). P o.shape n.words) (sym v.opening) (subst (P (shape_of m)) (sym v.words) h) in
       let reshape : (P : Shape → Type 0) → P (shape_of m) → P (shape_of n) = λ P h. subst (λ (o : Opening). P o.shape) (sym v.opening) h in
       let past : EntriesPast m = λ y i. let fits = (entry_fits (shape_of m) m.words m.history m.fates y k.entries i).1 in (fits.exists, fits.past) in
-      let sound = sound-kept m n v (record { formats = k.formats; entries = k.entries; stores = k.stores; loads = k.loads; found = k.found_reads; sound = k.sound }) (fated (shape_of m) m.words m.history m.fates k.entries) in
+      let sound = sound-kept m n v (record { formats = k.formats; entries = k.entries; stores = k.stores; loads = k.loads; found = k.found_reads; moved = k.moved_reads; sound = k.sound }) (fated (shape_of m) m.words m.history m.fates k.entries) in
       let fronts = fronts-kept m n v k.lanes k.fronts entries in
       let past_now = entries.past (subst (λ words. PastDecided (shape_of m) words m.history m.fates) (sym v.words) (past-kept m k.formats.field v.word v.new v.left k.entries k.fronts k.past)) in
       let noted = statuses_noted (shape_of m) m.words m.passes k.statuses in

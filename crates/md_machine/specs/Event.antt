@@ -63,7 +63,7 @@ module _ (M : Meaning) where
   Does m (install pass word from to) n = (p : PassView) × (h : Hand) × Acts m pass p × MayInstall m p h word from to × (n ≡ after_install m pass p h word from to)
   Does m (exchange pass word from to) n = (p : PassView) × Acts m pass p × MayExchange M m p word from to × (n ≡ after_exchange m pass p word from to)
   Does m (ready pass reads) n = (p : PassView) × (h : Hand) × (cs : List Certificate) × Acts m pass p × MayReady M m p h cs reads × (n ≡ after_ready m pass p h cs reads)
-  Does m (commit pass desc from) n = (p : PassView) × Acts m pass p × MayCommit (shape_of m) p desc from × (n ≡ after_commit m pass p desc from)
+  Does m (commit pass desc from) n = (p : PassView) × Acts m pass p × MayCommit (shape_of m) m.words p desc from × (n ≡ after_commit m pass p desc from)
   Does m (abort pass desc from) n = (p : PassView) × Acts m pass p × MayAbort (shape_of m) p desc from × (n ≡ after_abort m pass p desc from)
   Does m (uninstall pass word from value) n = (p : PassView) × Acts m pass p × MayUninstall m p word from value × (n ≡ after_uninstall m pass p word from value)
   Does m (start pass desc from) n = (p : PassView) × Acts m pass p × MayStart m p desc from × (n ≡ after_start m pass p desc from)

@@ -208,7 +208,9 @@ impl<'a, T: Theory> Ready<'a, T> {
     /// It takes no memory.
     ///
     /// It takes one step for each recorded word, up to the first that has changed, one for the
-    /// decision, one for each written word, at most three for each kept cleanup, and one more.
+    /// decision, one for each written word, at most three for each kept cleanup, and one more. If
+    /// the pass holds all lanes, it looks at no recorded word, since nobody else can have changed
+    /// it, and commits.
     pub fn decide(self) -> Result<Receipt, Shown>
         requires { IsReady T.meaning (ready_state self) }
         ensures committed { IfOk result (λ receipt. (e : HasEntry (ready_state self.entry))

@@ -1,5 +1,6 @@
 pub mod Validation
 pub mod Settling
+pub mod StandAlone
 pub mod MaySettle
 pub mod LastFates
 pub mod Answered

@@ -15,8 +15,10 @@ use Rattle.md_machine.specs.declared.step.Kind.TheVariants.{Abort, Commit, Load}
 use Rattle.md_machine.specs.declared.step.Step.{Step}
 use Rattle.md_machine.specs.Trail.{Loads, Meets, SomeStep, SomeStepOf, read_stands}
 use Rattle.md_machine.specs.Meaning.{Meaning}
-use Rattle.md_machine.specs.events.Decide.{MayAbort, MayCommit, decided_word}
-use Rattle.md_rule.specs.Steps.{EventOf, SteppedFrom}
+use Rattle.md_machine.specs.Event.{abort, commit}
+use Rattle.md_machine.specs.clauses.passes.Alone.{HoldsAll}
+use Rattle.md_machine.specs.events.Decide.{decided_word}
+use Rattle.md_rule.specs.Steps.{EventOf, May, SteppedFrom}
 use Rattle.md_rule.specs.Views.{Origin, PassState}
 use Rattle.md_history.specs.Front.{AllStay, IsPrefix}
 use Rattle.md_history.specs.declared.entries.Fate.{Fate}
@@ -59,22 +61,26 @@ pub record FoundReadMoved (desc : ℕ) (reads : List Read) (shown : Shown) (befo
   pub moved : read_stands desc read.content shown.now ≡ false
   pub highest : (held : ℕ) → SomeStepOf before (Meets read.word held) → count_of held ≤ count_of shown.now
 
--- so many of the first reads stand, or the last that was looked at doesn't
-abbrev pub FoundReads : (desc : ℕ) → List Read → (count : ℕ) → Option Shown → PassView → List Step → Type 0
-FoundReads desc reads count None before steps = (i : ℕ) → i < count → FoundStanding desc (get_or reads i NO_READ) steps
-FoundReads desc reads count (Some shown) before steps = FoundReadMoved desc reads shown before steps
+-- so many of the first reads were found to stand, or the pass holds all lanes, so that no word moved; or the last read
+-- that was looked at doesn't stand
+abbrev pub FoundReads : Shape → (desc : ℕ) → List Read → (count : ℕ) → Option Shown → PassView → List Step → Type 0
+FoundReads shape desc reads count None before steps =
+    ((i : ℕ) → i < count → FoundStanding desc (get_or reads i NO_READ) steps) ⊎ HoldsAll shape before
+FoundReads shape desc reads count (Some shown) before steps = FoundReadMoved desc reads shown before steps
 
--- a pass validated its reads: it looked at the word of each, up to the first that doesn't stand
+-- a pass validated its reads: it looked at the word of each, up to the first that doesn't stand. One that holds all lanes
+-- looks at none
 pub record Validates (shape : Shape) (desc : ℕ) (reads : List Read) (count : ℕ) (moved : Option Shown) (before after : PassView) : Type 0 where
   pub steps : List Step
   pub goes : IsAfter shape steps before after
   pub looks : All (LooksAtCounted shape) steps
-  pub finds : FoundReads desc reads count moved before steps
+  pub finds : FoundReads shape desc reads count moved before steps
+  pub alone : HoldsAll shape before → steps ≡ []
 
 -- what may be decided by a validation: a commit if each read stands, or else an abort
-abbrev pub MayDecide : Shape → PassView → (desc from : ℕ) → Option Shown → Type 0
-MayDecide shape view desc from None = MayCommit shape view desc from
-MayDecide shape view desc from (Some shown) = MayAbort shape view desc from
+abbrev pub MayDecide : Meaning → Origin → PassView → (desc from : ℕ) → Option Shown → Type 0
+MayDecide M o view desc from None = May M o (λ pass. commit pass desc from) view
+MayDecide M o view desc from (Some shown) = May M o (λ pass. abort pass desc from) view
 
 -- what is shown of a descriptor that another aborted
 abbrev pub aborted_by_other : Shape → (desc from : ℕ) → Shown

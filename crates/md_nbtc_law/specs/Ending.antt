@@ -290,6 +290,8 @@ pub record CommitsTransaction (M : Meaning) (t : TxnState) (e : HasEntry t) (q :
   pub mark : Step
   pub trail : q.view.trail ≡ t.pass.view.trail ++ (deciding ++ (outs ++ (cleaning ++ mark ∷ [])))
   pub met : SomeStep (λ s. (held : ℕ) × Meets (address (shape_in t) (desc_status (attempt_in t).desc)) held s × (held ≡ ready_word (attempt_in t) (length t.reads) + 1)) deciding
+  -- a pass that holds all lanes looks at no word before it
+  pub at_once : HoldsAll (shape_in t) t.pass.view → (s : Step) × (deciding ≡ s ∷ [])
   pub taken : AllZip (TakesWrite (attempt_in t) IsCommitted) (writes_in t) outs
   pub cleans : CleansAll (shape_in t) t.slots outs cleaning
 

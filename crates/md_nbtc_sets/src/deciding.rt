@@ -26,7 +26,8 @@ use md_words::{Status, StatusWord};
 use std::snapshot::Snapshot;
 
 // Looks at the word of each read, in order. The first that doesn't stand ends it, and is shown.
-// At most one step for each read.
+// At most one step for each read. A pass that holds all lanes looks at none: nobody else makes
+// steps, so no word moved since it was recorded.
 fn validate<T: Theory>(
     field: &Field<T>,
     pass: &mut Pass<T>,
@@ -41,6 +42,9 @@ fn validate<T: Theory>(
     ensures validates { Validates field.now.origin.shape desc reads.now (length reads.now) result
         pass.old.view pass.new.view }
 {
+    if pass.holds_all(field) {
+        return None;
+    }
     for i in 0..reads.len() {
         let read = reads.get(i);
         let found = pass.load(field, read.word);
@@ -83,7 +87,7 @@ fn settle<T: Theory>(
     requires of { IsOf pass.old field.now }
     requires stands { StandsInField T.meaning field.now.origin pass.old.view }
     requires in_progress { IsInProgress field.now.origin.shape pass.old.view attempt from }
-    requires may { MayDecide field.now.origin.shape pass.old.view attempt.desc from moved }
+    requires may { MayDecide T.meaning field.now.origin pass.old.view attempt.desc from moved }
     ensures same { pass.new ≡ record pass.old { view = pass.new.view } }
     ensures stands { StandsInField T.meaning field.now.origin pass.new.view }
     ensures settles { DecidesDescriptor T.meaning field.now.origin attempt.desc from moved result
@@ -129,7 +133,8 @@ fn in_progress(reads: u8, serial: u64) -> u64
 /// status word before and after the abort by another pass.
 ///
 /// It takes one step for each recorded word, up to the first that has changed, one for the
-/// decision, one for each written word, at most three for each kept cleanup, and one more.
+/// decision, one for each written word, at most three for each kept cleanup, and one more. A pass
+/// that holds all lanes looks at no recorded word, since nobody else can have changed it.
 pub fn decided<T: Theory>(
     field: &Field<T>,
     pass: &mut Pass<T>,

@@ -1,7 +1,7 @@
 -- A pass that holds all lanes: what a transaction saw in a word stands there.
-use Rattle.std.proofs.Common.{◌≡◌, ◌<◌, ◌^◌, ◌++◌, ℕ, true, false, List, [], ◌∷◌, Option, Some, None, is_some, refl, sym, ap, ◌∙◌, subst, ⊎_elim, append_assoc}
+use Rattle.std.proofs.Common.{◌≡◌, ◌<◌, ◌^◌, ℕ, true, false, List, Option, Some, None, is_some, refl, sym, ap, ◌∙◌, subst, ⊎_elim}
 use Rattle.std.proofs.lemmas.Bool.{cases_Bool, true≢false}
-use Rattle.std.proofs.lemmas.List.Elements.{All-contains, All-cons, All-weaker}
+use Rattle.std.proofs.lemmas.List.Elements.{All-contains}
 use Rattle.std.specs.List.{All, Contains}
 use Rattle.std.specs.Prelude.{option_map, unwrap_or}
 use Rattle.md_words.specs.declared.shape.Shape.{Shape}
@@ -13,17 +13,14 @@ use Rattle.md_words.proofs.Words.{count_of-counted_word, value_of-counted_word}
 use Rattle.md_machine.specs.declared.certificate.Certificate.{Certificate}
 use Rattle.md_machine.specs.declared.certificate.NewNode.{NewNode}
 use Rattle.md_machine.specs.declared.certificate.TidyChange.{TidyChange}
-use Rattle.md_machine.specs.declared.step.Step.{Step}
 use Rattle.md_machine.specs.Certified.{all_nodes, content_read, content_replaced, is_written}
 use Rattle.md_machine.specs.LogicalHeap.{LogicalHeap}
 use Rattle.md_machine.specs.Machine.{Machine, content}
 use Rattle.md_machine.specs.Meaning.{Lawful, Meaning}
 use Rattle.md_machine.specs.Resolution.{or_else}
-use Rattle.md_machine.specs.clauses.passes.Alone.{HoldsAll, IsAlone, LastStand}
+use Rattle.md_machine.specs.clauses.passes.Alone.{HoldsAll}
 use Rattle.md_machine.proofs.chain.Agree.{SameValues}
 use Rattle.md_machine.proofs.chain.Values.{value_even}
-use Rattle.md_machine.proofs.lists.Rising.{here}
-use Rattle.md_rule.proofs.Moves.{is_kept}
 use Rattle.md_nbtc_law.specs.declared.seen.Seen.{Seen}
 use Rattle.md_nbtc_law.specs.Going.{IsGoing}
 use Rattle.md_nbtc_law.specs.Known.{IsHeapOf, IsLater, Met, found_by}
@@ -35,9 +32,9 @@ use Rattle.md_nbtc_law.proofs.Values.{IsApart}
 use Rattle.md_nbtc_law.proofs.attempts.Alone.{found_same}
 use Rattle.md_nbtc_law.proofs.exchanging.Refused.{read_there}
 use Rattle.md_nbtc_law.proofs.preparing.Heaps.{later_self}
-use Rattle.md_nbtc_law.proofs.looks.AloneChain.{ChainsFrom, chain_later, chained, last_at, stays_held}
+use Rattle.md_nbtc_law.proofs.decisions.StandAlone.{left_stands}
 use Rattle.md_nbtc_law.proofs.ready.Lookups.{all_of, written_replaced}
-use Rattle.md_nbtc_law.proofs.ready.Lost.{began_then, last_part, on_word, one_stands}
+use Rattle.md_nbtc_law.proofs.ready.Lost.{began_then}
 use Rattle.md_nbtc_law.proofs.structures.FoundLater.{found_value}
 use Rattle.md_nbtc_law.proofs.structures.NodesKnown.{new_differ, new_exist, new_free, own_is_new, shape_known}
 use Rattle.md_nbtc_law.proofs.structures.SeenValues.{own_value}
@@ -52,27 +49,10 @@ module _ (M : Meaning) (t : TxnState) (prepared : IsPrepared t) (all : HoldsAll 
   pub alone_same : SameValues (found_by t h) h
   alone_same = subst (λ k. SameValues (found_by t k) k) (sym of.is) (found_same M t prepared of.machine of.admitted of.pass of.acts all of.choice)
 
-  alone : IsAlone m of.pass t.pass.view
-  alone = (is_kept M t.field.origin m of.admitted).alone of.pass t.pass.view of.acts.at (subst (λ (s : Shape). HoldsAll s t.pass.view) (sym of.admitted.shape) all)
-
   -- what own steps left in a word stands there
-  left_stands : (word held : ℕ) → LeftThere (attempt_in t).desc word held (own_steps t) → content m word ≡ held
-  left_stands word held l =
-      let before : List Step = t.began.view.trail ++ l.earlier in
-      let trail : t.pass.view.trail ≡ before ++ l.step ∷ l.later = began_then t.began.view.trail t.pass.view.trail prepared.has.since ∙ ap (λ x. t.began.view.trail ++ x) l.order
-      ∙ sym (append_assoc t.began.view.trail l.earlier (l.step ∷ l.later)) in
-      let chain = subst (ChainsFrom []) trail (chained M t.field.origin m of.admitted of.pass t.pass.view of.acts all) in
-      let kept = stays_held (attempt_in t).desc word held (before ++ l.step ∷ []) l.later (λ x last. last_at before l.step word x l.leaves.there last ∙ l.leaves.after)
-      (chain_later [] before (l.step ∷ l.later) chain).1 l.unchanged in
-      one_stands m word held (l.step ∷ l.later) (last_part m before (l.step ∷ l.later) (subst (LastStand m) trail alone.words))
-      (All-cons Left l.step l.later (λ _. l.leaves.after) (All-weaker Both Left (λ s is there. (is there).1) l.later kept))
-      (on_word word (l.step ∷ l.later) l.step (here l.step l.later) l.leaves.there)
-    where
-      Left : Step → Type 0
-      Left s = s.word ≡ word → s.after ≡ held
-
-      Both : Step → Type 0
-      Both s = s.word ≡ word → (s.before ≡ held) × (s.after ≡ held)
+  own_left : (word held : ℕ) → LeftThere (attempt_in t).desc word held (own_steps t) → content m word ≡ held
+  own_left word held = left_stands M t.field.origin m of.admitted of.pass t.pass.view of.acts all (attempt_in t).desc word held t.began.view.trail (own_steps t)
+      (began_then t.began.view.trail t.pass.view.trail prepared.has.since)
 
   module _ (word : ℕ) (seen : Seen) (gave : Gave t word seen) (fits : seen.count < 2 ^ 32) (other : seen.own ≡ false) where
     abbrev sees : SeesContent t word seen
@@ -83,7 +63,7 @@ module _ (M : Meaning) (t : TxnState) (prepared : IsPrepared t) (all : HoldsAll 
 
     value_there : h.words.value word ≡ seen.value
     value_there =
-        let stands = left_stands word (seen_content seen) sees.left in
+        let stands = own_left word (seen_content seen) sees.left in
         ap (λ (k : LogicalHeap). k.words.value word) of.is
         ∙ value_even m of.choice word (subst (λ (s : Shape). IsCounted s word) (sym of.admitted.shape) gave.counted) (ap (λ c. is_even (count_of c)) stands ∙ even_there)
         ∙ ap value_of stands ∙ value_of-counted_word seen.value seen.count fits

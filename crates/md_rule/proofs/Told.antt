@@ -75,11 +75,11 @@ module _ (M : Meaning) (o : Origin) (before after : PassView) where
       (h, cs, subst (λ p. MayReady M s.machine p h cs count) r.was s.does.4, r.is ∙ ap (λ p. view_after_ready s.machine p h cs count) r.was)
 
   pub told_commit : (desc from : ℕ) (s : Stepped M o (λ pass. commit pass desc from) before after)
-      → MayCommit (shape_of s.machine) before desc from × (after ≡ exchanged s.machine before Commit (address (shape_of s.machine) (desc_status desc)) from (decided_word Committed from))
+      → MayCommit (shape_of s.machine) s.machine.words before desc from × (after ≡ exchanged s.machine before Commit (address (shape_of s.machine) (desc_status desc)) from (decided_word Committed from))
   told_commit desc from s =
       let w : PassView → PassView = λ p. exchanged s.machine p Commit (address (shape_of s.machine) (desc_status desc)) from (decided_word Committed from) in
       let r = that s.machine s.next s.pass s.does.0 before after (w s.does.0) s.does.1 s.acts (passes_of s.does.3) s.knows in
-      (subst (λ p. MayCommit (shape_of s.machine) p desc from) r.was s.does.2, r.is ∙ ap w r.was)
+      (subst (λ p. MayCommit (shape_of s.machine) s.machine.words p desc from) r.was s.does.2, r.is ∙ ap w r.was)
 
   pub told_abort : (desc from : ℕ) (s : Stepped M o (λ pass. abort pass desc from) before after)
       → MayAbort (shape_of s.machine) before desc from × (after ≡ exchanged s.machine before Abort (address (shape_of s.machine) (desc_status desc)) from (decided_word Aborted from))

@@ -1,5 +1,5 @@
 -- What each event leaves in its word is a change that the word may have.
-use Rattle.std.proofs.Common.{IsTrue, ◌≡◌, ◌≢◌, ℕ, ◌+◌, ◌<◌, ◌≤◌, true, false, not, sym, ap, ◌∙◌, subst, inl, inr, ⊎_elim, arith}
+use Rattle.std.proofs.Common.{List, IsTrue, ◌≡◌, ◌≢◌, ℕ, ◌+◌, ◌<◌, ◌≤◌, true, false, not, sym, ap, ◌∙◌, subst, inl, inr, ⊎_elim, arith}
 use Rattle.std.proofs.lemmas.Bool.{false≢true}
 use Rattle.md_words.specs.declared.shape.Shape.{Shape}
 use Rattle.md_words.specs.declared.content.Spot.{Spot}
@@ -152,8 +152,8 @@ decide_changes m desc from s f exists ready done moves undecided e =
     (subst (λ held. reads_of held ≤ SET) e (f.status desc exists).few) ready (ap serial_of (sym e)) (ap (λ held. moves_to (status_of held) s) e ∙ moves) (subst IsUndecided (sym e) undecided)
     (λ d. ⊎_elim (λ u. ready (sym d ∙ ap status_of e ∙ u)) (λ u. done (sym d ∙ ap status_of e ∙ u)) undecided) (λ _. ap reads_of (sym e)))
 
-pub commit_moves : (shape : Shape) (p : PassView) (desc from : ℕ) → MayCommit shape p desc from → moves_to (status_of from) Committed ≡ true
-commit_moves shape p desc from may = ap (λ s. moves_to s Committed) may.in_progress
+pub commit_moves : (shape : Shape) (words : List ℕ) (p : PassView) (desc from : ℕ) → MayCommit shape words p desc from → moves_to (status_of from) Committed ≡ true
+commit_moves shape words p desc from may = ap (λ s. moves_to s Committed) may.in_progress
 
 pub abort_moves : (shape : Shape) (p : PassView) (desc from : ℕ) → MayAbort shape p desc from → moves_to (status_of from) Aborted ≡ true
 abort_moves shape p desc from may = ⊎_elim (λ e. ap (λ s. moves_to s Aborted) e) (λ found. ap (λ s. moves_to s Aborted) found.in_progress) may.undecided

@@ -119,7 +119,7 @@ pub record WinsFate (m n : Machine) (p : PassView) (kind : Kind) (word new : ℕ
   pub from : ℕ
   pub status : Status
   pub by : (kind ≡ Commit) ⊎ (kind ≡ Abort)
-  pub may : ((status ≡ Committed) × MayCommit (shape_of m) p desc from) ⊎ ((status ≡ Aborted) × MayAbort (shape_of m) p desc from)
+  pub may : ((status ≡ Committed) × MayCommit (shape_of m) m.words p desc from) ⊎ ((status ≡ Aborted) × MayAbort (shape_of m) p desc from)
   pub there : word ≡ address (shape_of m) (desc_status desc)
   pub was : content m word ≡ from
   pub is : new ≡ decided_word status from
@@ -287,7 +287,7 @@ module _ (M : Meaning) where
       (λ _. by_look M m pass p acts Ready word refl inside)
 
   decides_or_loses : (m : Machine) (pass : ℕ) (p : PassView) (desc from : ℕ) (kind : Kind) (status : Status) → Acts m pass p → desc < desc_count (shape_of m) → (kind ≡ Commit) ⊎ (kind ≡ Abort)
-      → ((status ≡ Committed) × MayCommit (shape_of m) p desc from) ⊎ ((status ≡ Aborted) × MayAbort (shape_of m) p desc from) → Moves M m (after_deciding kind status m pass p desc from)
+      → ((status ≡ Committed) × MayCommit (shape_of m) m.words p desc from) ⊎ ((status ≡ Aborted) × MayAbort (shape_of m) p desc from) → Moves M m (after_deciding kind status m pass p desc from)
   decides_or_loses m pass p desc from kind status acts exists is may =
       let word = address (shape_of m) (desc_status desc) in
       exchanged_cases (content m word) from

@@ -171,7 +171,7 @@ module _ (M : Meaning) (m n : Machine) (f : AreFormats (shape_of m) m.words) (ap
   decide_leaves : WinsFate m n v.p v.kind v.word v.new → MayLeave (Unit {0}) m v.word v.new
   decide_leaves x =
       let undecided : IsUndecided x.from = ⊎_elim (λ c. inr c.1.in_progress) (λ a. ⊎_elim inl (λ found. inr found.in_progress) a.1.undecided) x.may in
-      let moves : moves_to (status_of x.from) x.status ≡ true = ⊎_elim (λ c. ap (moves_to (status_of x.from)) c.0 ∙ commit_moves (shape_of m) v.p x.desc x.from c.1) (λ a. ap (moves_to (status_of x.from)) a.0 ∙ abort_moves (shape_of m) v.p x.desc x.from a.1) x.may in
+      let moves : moves_to (status_of x.from) x.status ≡ true = ⊎_elim (λ c. ap (moves_to (status_of x.from)) c.0 ∙ commit_moves (shape_of m) m.words v.p x.desc x.from c.1) (λ a. ap (moves_to (status_of x.from)) a.0 ∙ abort_moves (shape_of m) v.p x.desc x.from a.1) x.may in
       inr (subst (λ w. Changes (Unit {0}) m w v.new) (sym x.there) (subst (Changes (Unit {0}) m _) (sym x.is)
       (decide_changes m x.desc x.from x.status f (⊎_elim (λ c. c.1.exists) (λ a. a.1.exists) x.may)
       (λ e. ⊎_elim (λ c. committed_prep (sym c.0 ∙ e)) (λ a. aborted_prep (sym a.0 ∙ e)) x.may) (λ e. ⊎_elim (λ c. committed_prog (sym c.0 ∙ e)) (λ a. aborted_prog (sym a.0 ∙ e)) x.may)

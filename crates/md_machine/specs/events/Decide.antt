@@ -1,5 +1,5 @@
 -- The events commit and abort: an attempt gets its fate.
-use Rattle.std.specs.Prelude.{◌≡◌, ◌<◌, ℕ, Bool, true, false, List, ◌⊎◌, if◌then◌else◌}
+use Rattle.std.specs.Prelude.{◌≡◌, ◌<◌, ℕ, Bool, true, false, List, ◌⊎◌, if◌then◌else◌, slice_index}
 use Rattle.md_words.specs.declared.shape.Shape.{Shape}
 use Rattle.md_words.specs.declared.status.Status.{Status}
 use Rattle.md_words.specs.declared.status.Status.TheVariants.{InPrep, InProg, Committed, Aborted}
@@ -12,7 +12,7 @@ use Rattle.md_machine.specs.declared.step.Step.{Step}
 use Rattle.md_machine.specs.declared.step.Kind.{Kind}
 use Rattle.md_machine.specs.declared.step.Kind.TheVariants.{Commit, Abort}
 use Rattle.md_machine.specs.declared.pass.PassView.{PassView}
-use Rattle.md_machine.specs.Machine.{Machine, attempt_of, shape_of}
+use Rattle.md_machine.specs.Machine.{Machine, attempt_of, shape_of, word_at}
 use Rattle.md_machine.specs.Own.{HasDesc}
 use Rattle.md_machine.specs.Stepping.{exchanged, left_by, replaced, wins, with_fate}
 use Rattle.md_machine.specs.Trail.{Finds, LastStored, Loads, Meets, SomeStep, SomeStepOf, StepOf, holds_desc, read_stands}
@@ -38,12 +38,22 @@ FoundRead stood shape p since a i = (l : LoadsRead shape p since a i) × (read_s
 abbrev pub SinceStatus : Shape → PassView → (desc status : ℕ) → Type 0
 SinceStatus shape p desc status = StepOf p (Meets (address shape (desc_status desc)) status)
 
--- commit: the status is InProg, and since the pass found or left it, it found each read to stand
-pub record MayCommit (shape : Shape) (p : PassView) (desc from : ℕ) : Type 0 where
+-- it found so many reads of an attempt to stand
+abbrev pub FoundUnmoved : Shape → PassView → List Step → AttemptId → (reads : ℕ) → Type 0
+FoundUnmoved shape p since a reads = (i : ℕ) → i < reads → FoundRead true shape p since a i
+
+-- so many reads of a descriptor stand in these words
+abbrev pub StandNow : Shape → (words : List ℕ) → (desc reads : ℕ) → Type 0
+StandNow shape words desc reads = (i : ℕ) → i < reads
+    → read_stands desc (word_at shape words (read_content desc i)) (slice_index words (word_at shape words (read_word desc i))) ≡ true
+
+-- commit: the status is InProg, and since the pass found or left it, it found each read to stand. Or each stands now, which
+-- a pass can tell that holds all lanes
+pub record MayCommit (shape : Shape) (words : List ℕ) (p : PassView) (desc from : ℕ) : Type 0 where
   pub exists : desc < desc_count shape
   pub in_progress : status_of from ≡ InProg
   pub since : SinceStatus shape p desc from
-  pub stood : (i : ℕ) → i < reads_of from → FoundRead true shape p since.later (attempt_of desc (serial_of from)) i
+  pub stood : FoundUnmoved shape p since.later (attempt_of desc (serial_of from)) (reads_of from) ⊎ StandNow shape words desc (reads_of from)
 
 -- a step of the pass found the descriptor in a counted word
 abbrev pub HasMet : Shape → PassView → ℕ → Type 0

@@ -115,7 +115,7 @@ module _ (M : Meaning) (ins : M.certifies small_shape (inserts 2)) where
       exists = lit≤ tt;
       in_progress = refl;
       since = step_at (view_at h20 1) _ 5 (0, lit≤ tt, refl) (inl (record { there = refl; before = refl; found = refl }));
-      stood = λ i h. absurd (omega (arith, h));
+      stood = inl (λ i h. absurd (omega (arith, h)));
     },
     refl,
   )

@@ -166,7 +166,7 @@ module _ (M : Meaning) (fin : M.certifies small_shape finds) where
       exists = lit≤ tt;
       in_progress = refl;
       since = step_at (view_at h31 1) _ 16 (0, lit≤ tt, refl) (inr (record { there = refl; after = refl }));
-      stood = one_below (FoundRead true small_shape (view_at h31 1) (drop 17 (view_at h31 1).trail) (attempt_of 1 0)) (
+      stood = inl (one_below (FoundRead true small_shape (view_at h31 1) (drop 17 (view_at h31 1).trail) (attempt_of 1 0)) (
         record {
           word = place_word (node_next 2);
           recorded = 2;
@@ -176,7 +176,7 @@ module _ (M : Meaning) (fin : M.certifies small_shape finds) where
           loads = (nth (view_at h31 1) 17, (0, lit≤ tt, refl), record { kind = refl; finds = record { there = refl; before = refl; found = refl } });
         },
         refl,
-      );
+      ));
     },
     refl,
   )

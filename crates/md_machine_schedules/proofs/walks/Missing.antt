@@ -143,7 +143,7 @@ module _ (M : Meaning) (mis : M.certifies small_shape misses) where
       exists = lit≤ tt;
       in_progress = refl;
       since = step_at (view_at s27 1) _ 13 (0, lit≤ tt, refl) (inr (record { there = refl; after = refl }));
-      stood = one_below (FoundRead true small_shape (view_at s27 1) (drop 14 (view_at s27 1).trail) (attempt_of 1 0)) (
+      stood = inl (one_below (FoundRead true small_shape (view_at s27 1) (drop 14 (view_at s27 1).trail) (attempt_of 1 0)) (
         record {
           word = bucket;
           recorded = 2;
@@ -153,7 +153,7 @@ module _ (M : Meaning) (mis : M.certifies small_shape misses) where
           loads = (nth (view_at s27 1) 14, (0, lit≤ tt, refl), record { kind = refl; finds = record { there = refl; before = refl; found = refl } });
         },
         refl,
-      );
+      ));
     },
     refl,
   )

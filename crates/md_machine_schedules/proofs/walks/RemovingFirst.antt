@@ -261,7 +261,7 @@ module _ (M : Meaning) (rem : M.certifies small_shape removes_first) where
       exists = lit≤ tt;
       in_progress = refl;
       since = step_at (view_at u24 1) _ 13 (0, lit≤ tt, refl) (inr (record { there = refl; after = refl }));
-      stood = λ i h. absurd (omega (arith, h));
+      stood = inl (λ i h. absurd (omega (arith, h)));
     },
     refl,
   )

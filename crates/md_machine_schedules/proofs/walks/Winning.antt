@@ -73,7 +73,7 @@ module _ (M : Meaning) (ins : M.certifies small_shape (inserts 18)) where
       exists = lit≤ tt;
       in_progress = refl;
       since = step_at (view_at r21 1) _ 13 (0, lit≤ tt, refl) (inr (record { there = refl; after = refl }));
-      stood = λ i h. absurd (omega (arith, h));
+      stood = inl (λ i h. absurd (omega (arith, h)));
     },
     refl,
   )

@@ -113,6 +113,7 @@ module _ (M : Meaning) (t : TxnState) (ready : IsReady M t) (q : PassView) (move
     mark = f.mark;
     trail = trail_is;
     met = (step, Contains-push v.steps step, (decided_word IsCommitted (from M t ready), inr (record { there = there; after = left }), committed_word));
+    at_once = λ all. (step, ap (λ l. l ++ step ∷ []) (v.alone all));
     taken = f.taken;
     cleans = f.cleans;
   }

@@ -1,5 +1,5 @@
 -- A transaction that is ready may be committed or aborted by the validation of its reads.
-use Rattle.std.proofs.Common.{◌≡◌, ◌<◌, ◌+◌, ◌++◌, ◌∷◌, ℕ, zero, suc, Bool, true, false, List, [], Option, Some, None, length, get_or, refl, sym, ap, ◌∙◌, subst, inl, inr, append_assoc, arith}
+use Rattle.std.proofs.Common.{◌≡◌, ◌<◌, ◌+◌, ◌++◌, ◌∷◌, ℕ, Bool, true, false, List, Option, Some, None, length, get_or, refl, sym, ap, ◌∙◌, subst, inl, inr, ⊎_elim, append_assoc, arith}
 use Rattle.std.proofs.lemmas.List.Elements.{All-weaker, Contains-append_right, Contains-push}
 use Rattle.std.specs.List.{All, Contains}
 use Rattle.md_words.specs.declared.shape.Shape.{Shape}
@@ -16,21 +16,24 @@ use Rattle.md_machine.specs.declared.attempt.Read.{Read}
 use Rattle.md_machine.specs.declared.pass.PassView.{PassView}
 use Rattle.md_machine.specs.declared.step.Step.{Step}
 use Rattle.md_machine.specs.declared.step.Kind.TheVariants.{Install, Load}
+use Rattle.md_machine.specs.Event.{abort, commit}
 use Rattle.md_machine.specs.Machine.{attempt_of}
 use Rattle.md_machine.specs.Meaning.{Meaning}
 use Rattle.md_machine.specs.Own.{HasDesc}
 use Rattle.md_machine.specs.Stepping.{attempt_in_hand}
 use Rattle.md_machine.specs.Trail.{Loads, SomeStep, read_stands}
-use Rattle.md_machine.specs.events.Decide.{FoundRead, MayAbort, MayCommit}
+use Rattle.md_machine.specs.events.Decide.{FoundRead, FoundUnmoved, StandNow}
 use Rattle.md_machine.specs.events.Ready.{ready_word}
+use Rattle.md_rule.specs.Steps.{May}
 use Rattle.md_help.specs.After.{IsAfter}
 use Rattle.md_help.specs.Settles.{MetStatus}
-use Rattle.md_help.proofs.Deciding.{since_met}
+use Rattle.md_help.proofs.Deciding.{may_abort as abort_by, may_commit as commit_by, since_met}
 use Rattle.md_nbtc_law.specs.declared.slots.TheConstants.{NO_READ}
-use Rattle.md_nbtc_law.specs.Deciding.{LooksAtCounted, MayDecide, Validates}
+use Rattle.md_nbtc_law.specs.Deciding.{FoundStanding, LooksAtCounted, MayDecide, Validates}
 use Rattle.md_nbtc_law.specs.Ending.{IsReady}
-use Rattle.md_nbtc_law.specs.Prepared.{EachFrom, IsRecorded}
+use Rattle.md_nbtc_law.specs.Prepared.{IsRecorded}
 use Rattle.md_nbtc_law.specs.State.{TxnState, attempt_in, own_steps, shape_in}
+use Rattle.md_nbtc_law.proofs.decisions.StandAlone.{each_get, stand_alone}
 use Rattle.md_nbtc_law.proofs.preparing.Quiet.{IsQuiet, stored_still}
 use Rattle.md_nbtc_law.proofs.ready.Lookups.{all_of, each_in}
 use Rattle.md_nbtc_law.proofs.ready.Lost.{began_then}
@@ -41,12 +44,6 @@ look_is_quiet shape s l = record { store = rw l.kind refl; install = λ e. load_
   where
     load_no_install : Load ≡ Install → ⊥
     load_no_install e = cc
-
--- what holds of each element of a list with its place, by its place
-each_get : (P : ℕ → Read → Type 0) (from : ℕ) (xs : List Read) → EachFrom P from xs → (i : ℕ) → i < length xs → P (from + i) (get_or xs i NO_READ)
-each_get P from [] each i low = absurd (omega (arith, low))
-each_get P from (x ∷ xs) each zero low = subst (λ n. P n x) (omega arith) each.0
-each_get P from (x ∷ xs) each (suc i) low = subst (λ n. P n (get_or xs i NO_READ)) (omega arith) (each_get P (from + 1) xs each.1 i (omega (arith, low)))
 
 module _ (M : Meaning) (t : TxnState) (ready : IsReady M t) where
   abbrev a : AttemptId
@@ -121,23 +118,32 @@ module _ (M : Meaning) (t : TxnState) (ready : IsReady M t) where
     same_attempt : a ≡ attempt_of a.desc (serial_of from)
     same_attempt = ap (attempt_of a.desc) (sym from_serial)
 
-  may_commit : (q : PassView) → Validates (shape_in t) a.desc t.reads (length t.reads) None t.pass.view q → MayCommit (shape_in t) q a.desc from
-  may_commit q v = record {
-    exists = desc_is;
-    in_progress = from_status;
-    since = since_met (shape_in t) q a.desc from (met_ready v.steps q v.goes);
-    stood = λ i below. let less = subst (λ n. i < n) from_reads below in
+  module _ (q : PassView) (v : Validates (shape_in t) a.desc t.reads (length t.reads) None t.pass.view q) where
+    looked_at : ((i : ℕ) → i < length t.reads → FoundStanding a.desc (get_or t.reads i NO_READ) v.steps)
+        → FoundUnmoved (shape_in t) q (ready.left.later ++ v.steps) (attempt_of a.desc (serial_of from)) (reads_of from)
+    looked_at finds i below =
+        let less = subst (λ n. i < n) from_reads below in
         let r = get_or t.reads i NO_READ in
         let is = subst (λ n. IsRecorded t n r) (omega arith) (each_get (IsRecorded t) 0 t.reads ready.has.reads i less) in
-        let f = v.finds i less in
-        subst (λ b. FoundRead true (shape_in t) q (ready.left.later ++ v.steps) b i) (same_attempt q None v) (found_read q None v i r is f.found true f.loads f.stands);
-  }
+        let f = finds i less in
+        subst (λ b. FoundRead true (shape_in t) q (ready.left.later ++ v.steps) b i) (same_attempt q None v) (found_read q None v i r is f.found true f.loads f.stands)
 
-  may_abort : (q : PassView) (shown : Shown) → Validates (shape_in t) a.desc t.reads (length t.reads) (Some shown) t.pass.view q → MayAbort (shape_in t) q a.desc from
+    may_commit : May M t.field.origin (λ pass. commit pass a.desc from) q
+    may_commit = commit_by M t.field.origin q a.desc from (λ m admitted pass acts. record {
+      exists = desc_is;
+      in_progress = from_status;
+      since = since_met (shape_in t) q a.desc from (met_ready v.steps q v.goes);
+      stood = ⊎_elim (λ finds. inl (looked_at finds))
+          (λ all. inr (subst (StandNow (shape_in t) m.words a.desc) (sym from_reads)
+          (stand_alone M t ready all q (subst (λ l. IsAfter (shape_in t) l t.pass.view q) (v.alone all) v.goes) m admitted pass acts)))
+          v.finds;
+    })
+
+  may_abort : (q : PassView) (shown : Shown) → Validates (shape_in t) a.desc t.reads (length t.reads) (Some shown) t.pass.view q → May M t.field.origin (λ pass. abort pass a.desc from) q
   may_abort q shown v =
       let f = v.finds in
       let at = each_in (IsRecorded t) 0 t.reads ready.has.reads f.read f.among in
-      let below = at.2 in record {
+      let below = at.2 in abort_by M t.field.origin q a.desc from (record {
         exists = desc_is;
         reached = inl (own_then v.steps q v.goes);
         undecided = inr (record {
@@ -148,8 +154,8 @@ module _ (M : Meaning) (t : TxnState) (ready : IsReady M t) where
           moved = subst (λ b. FoundRead false (shape_in t) q (ready.left.later ++ v.steps) b at.0) (same_attempt q (Some shown) v)
               (found_read q (Some shown) v at.0 f.read at.3 shown.now false (f.last, subst (λ l. Contains l f.last) (sym f.order) (Contains-push f.earlier f.last), f.loads) f.moved);
         });
-      }
+      })
 
-  pub may_settle : (q : PassView) (moved : Option Shown) → Validates (shape_in t) a.desc t.reads (length t.reads) moved t.pass.view q → MayDecide (shape_in t) q a.desc from moved
+  pub may_settle : (q : PassView) (moved : Option Shown) → Validates (shape_in t) a.desc t.reads (length t.reads) moved t.pass.view q → MayDecide M t.field.origin q a.desc from moved
   may_settle q None v = may_commit q v
   may_settle q (Some shown) v = may_abort q shown v

@@ -53,9 +53,9 @@ module _ (M : Meaning) (t : TxnState) (ready : IsReady M t) (x : AttemptId) (x_i
   pub in_progress : (status_of by ≡ InProg) × (serial_of by ≡ x.serial)
   in_progress = (ap status_of by_is ∙ from_status M t ready, ap serial_of by_is ∙ from_serial M t ready ∙ ap (λ (y : AttemptId). y.serial) (sym x_is))
 
-  pub may : MayDecide (shape_in t) p.view x.desc by moved
-  may = subst (λ (y : AttemptId). MayDecide (shape_in t) p.view y.desc by moved) (sym x_is)
-      (subst (λ w. MayDecide (shape_in t) p.view a.desc w moved) (sym by_is) (may_settle M t ready p.view moved v))
+  pub may : MayDecide M t.field.origin p.view x.desc by moved
+  may = subst (λ (y : AttemptId). MayDecide M t.field.origin p.view y.desc by moved) (sym x_is)
+      (subst (λ w. MayDecide M t.field.origin p.view a.desc w moved) (sym by_is) (may_settle M t ready p.view moved v))
 
   module _ (same : p ≡ record t.pass { view = p.view }) (also : q ≡ record p { view = q.view }) (stands : StandsInField M t.field.origin p.view) (after : StandsInField M t.field.origin q.view)
       (result : Result (Unit {0}) Shown) (settles : DecidesDescriptor M t.field.origin x.desc by moved result p.view q.view) where

@@ -1,32 +1,26 @@
 -- A read of a word that a ready transaction wrote stands as long as no step decided the transaction.
-use Rattle.std.proofs.Common.{◌≡◌, ◌==◌, ◌&&◌, ◌||◌, ◌≤◌, ◌+◌, ◌++◌, ◌∷◌, ℕ, Bool, true, false, [], Some, length, refl, sym, ap, ◌∙◌, subst, inl, inr, eq-eqb, arith}
+use Rattle.std.proofs.Common.{◌≡◌, ◌≤◌, ◌+◌, ◌++◌, ◌∷◌, false, [], Some, length, sym, ap, ◌∙◌, subst, inl, inr, arith}
 use Rattle.std.proofs.lemmas.Bool.{false≢true}
 use Rattle.std.proofs.lemmas.List.Elements.{All-contains, All-weaker, Contains-append_right, Contains-push}
 use Rattle.std.specs.List.{All, Contains}
-use Rattle.std.specs.Prelude.{not}
-use Rattle.md_words.specs.declared.content.Spot.{Spot}
-use Rattle.md_words.specs.Content.{count_of, is_even, spot_of, spot_value, value_of}
+use Rattle.md_words.specs.Content.{count_of}
 use Rattle.md_words.specs.Layout.{address}
 use Rattle.md_words.specs.Place.{desc_status}
 use Rattle.md_words.specs.PlaceAt.{IsCounted}
 use Rattle.md_words.specs.Status.{serial_of, status_of}
 use Rattle.md_words.specs.declared.shape.Shape.{Shape}
-use Rattle.md_words.proofs.Words.{count_of-counted_word}
 use Rattle.md_history.specs.declared.stops.Shown.{Shown}
 use Rattle.md_machine.specs.declared.attempt.AttemptId.{AttemptId}
 use Rattle.md_machine.specs.declared.attempt.Read.{Read}
 use Rattle.md_machine.specs.declared.attempt.Write.{Write}
 use Rattle.md_machine.specs.declared.pass.PassView.{PassView}
-use Rattle.md_machine.specs.declared.step.TheConstants.{LAST_COUNT}
 use Rattle.md_machine.specs.Certified.{first_content}
 use Rattle.md_machine.specs.Installs.{IsUndecided}
 use Rattle.md_machine.specs.Machine.{Install, IsPresentIn, Machine, content, shape_of, status_at}
 use Rattle.md_machine.specs.Theorem.{IsKept}
 use Rattle.md_machine.specs.clauses.words.Stamps.{IsNoted}
-use Rattle.md_machine.proofs.events.Leaves.{install_odd}
 use Rattle.md_machine.specs.Meaning.{Meaning}
 use Rattle.md_machine.specs.Trail.{Meets, SomeStepOf, read_stands}
-use Rattle.md_machine.specs.events.Install.{installed_word}
 use Rattle.md_machine.proofs.chain.Values.{installed_spot}
 use Rattle.md_machine.proofs.lists.Options.{some_same}
 use Rattle.md_rule.specs.Steps.{EventOf, SteppedFrom}
@@ -39,24 +33,8 @@ use Rattle.md_nbtc_law.specs.Ending.{IsReady}
 use Rattle.md_nbtc_law.specs.State.{TxnState, attempt_in, shape_in, writes_in}
 use Rattle.md_nbtc_law.specs.Withdrawing.{IsInstalled, installed_in}
 use Rattle.md_nbtc_law.proofs.decisions.MaySettle.{from, from_serial, from_status, look_is_quiet}
+use Rattle.md_nbtc_law.proofs.decisions.StandAlone.{own_stands}
 use Rattle.md_nbtc_law.proofs.withdrawals.Held.{held_installed}
-
--- an attempt's own descriptor stands where it was installed, one count later: a read of what was there stands
-pub own_stands : (desc slot old : ℕ) → count_of old ≤ LAST_COUNT → is_even (count_of old) ≡ true
-    → spot_of (value_of (installed_word old (record { desc = desc; slot = slot }))) ≡ record { desc = desc; slot = slot }
-    → read_stands desc old (installed_word old (record { desc = desc; slot = slot })) ≡ true
-own_stands desc slot old room even spot =
-    let held = installed_word old (record { desc = desc; slot = slot }) in
-    let count : count_of held ≡ count_of old + 1 = count_of-counted_word (spot_value (record { desc = desc; slot = slot })) (count_of old + 1) (omega (arith, room)) in
-    let odd = install_odd old (record { desc = desc; slot = slot }) (record { even = even; room = room }) in
-    let own : ((spot_of (value_of held)).desc == desc) ≡ true = eq-eqb (spot_of (value_of held)).desc desc (ap (λ (x : Spot). x.desc) spot) in
-    let one : (count_of held == count_of old + 1) ≡ true = eq-eqb (count_of held) (count_of old + 1) count in
-    ap (λ b. (held == old) || ((not b && ((spot_of (value_of held)).desc == desc)) && (count_of held == count_of old + 1))) odd
-    ∙ ap (λ b. (held == old) || (b && (count_of held == count_of old + 1))) own ∙ ap (λ b. (held == old) || b) one ∙ or_last (held == old)
-  where
-    or_last : (b : Bool) → (b || true) ≡ true
-    or_last true = refl
-    or_last false = refl
 
 module _ (M : Meaning) (t : TxnState) (ready : IsReady M t) (q : PassView) (shown : Shown) (v : Validates (shape_in t) (attempt_in t).desc t.reads (length t.reads) (Some shown) t.pass.view q)
     (event : EventOf) (r : PassView) (told : SteppedFrom M t.field.origin event (address (shape_in t) (desc_status (attempt_in t).desc)) (from M t ready) q r) where

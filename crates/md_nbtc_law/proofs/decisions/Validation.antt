@@ -1,5 +1,5 @@
 -- What the loads of a validation find.
-use Rattle.std.proofs.Common.{◌≡◌, ◌+◌, ◌<◌, ◌≤◌, ℕ, true, false, List, [], ◌∷◌, ◌++◌, None, Some, get_or, length, refl, sym, ◌∙◌, subst, inl, ⊎_elim, arith}
+use Rattle.std.proofs.Common.{◌≡◌, ◌+◌, ◌<◌, ◌≤◌, ℕ, true, false, List, [], ◌∷◌, ◌++◌, None, Some, get_or, length, refl, sym, ◌∙◌, subst, inl, inr, ⊎_elim, arith}
 use Rattle.std.proofs.lemmas.Bool.{cases_lt}
 use Rattle.std.proofs.lemmas.List.Elements.{All-append, All-get_or, All-cons, All-nil, Contains-append_left, Contains-get_or, Contains-push}
 use Rattle.std.specs.List.{All, Contains}
@@ -11,6 +11,7 @@ use Rattle.md_machine.specs.declared.pass.PassView.{PassView}
 use Rattle.md_machine.specs.declared.step.Kind.TheVariants.{Load}
 use Rattle.md_machine.specs.declared.step.Step.{Step}
 use Rattle.md_machine.specs.Event.{load}
+use Rattle.md_machine.specs.clauses.passes.Alone.{HoldsAll}
 use Rattle.md_machine.specs.Meaning.{Meaning}
 use Rattle.md_machine.specs.Trail.{Meets, read_stands}
 use Rattle.md_rule.specs.Steps.{SteppedFrom}
@@ -26,7 +27,11 @@ pub standing_more : (desc : ℕ) (r : Read) (a b : List Step) → FoundStanding 
 standing_more desc r a b f = record { found = f.found; loads = (f.loads.0, Contains-append_left a b f.loads.0 f.loads.1, f.loads.2); stands = f.stands }
 
 pub validated_none : (shape : Shape) (desc : ℕ) (reads : List Read) (p : PassView) → Validates shape desc reads 0 None p p
-validated_none shape desc reads p = record { steps = []; goes = none_after shape p; looks = All-nil (LooksAtCounted shape); finds = λ i h. absurd (omega (arith, h)) }
+validated_none shape desc reads p = record { steps = []; goes = none_after shape p; looks = All-nil (LooksAtCounted shape); finds = inl (λ i h. absurd (omega (arith, h))); alone = λ _. refl }
+
+-- a pass that holds all lanes looks at none
+pub validated_alone : (shape : Shape) (desc count : ℕ) (reads : List Read) (p : PassView) → HoldsAll shape p → Validates shape desc reads count None p p
+validated_alone shape desc count reads p all = record { steps = []; goes = none_after shape p; looks = All-nil (LooksAtCounted shape); finds = inr all; alone = λ _. refl }
 
 -- a load of a counted word looks at it
 pub look_made : (shape : Shape) (word found : ℕ) (p q : PassView) (m : Made shape Load word found found p q) → IsCounted shape word → LooksAtCounted shape m.step
@@ -37,7 +42,8 @@ module _ (M : Meaning) (o : Origin) (desc i : ℕ) (reads : List Read) (read : R
   pub read_counted : IsCounted o.shape read.word
   read_counted = subst (λ (r : Read). IsCounted o.shape r.word) (sym is) (All-get_or (λ (r : Read). IsCounted o.shape r.word) reads i NO_READ below counted)
 
-  module _ (p q r : PassView) (found : ℕ) (v : Validates o.shape desc reads i None p q) (step : SteppedFrom M o (λ pass. load pass read.word) read.word found q r) where
+  module _ (p q r : PassView) (found : ℕ) (v : Validates o.shape desc reads i None p q) (step : SteppedFrom M o (λ pass. load pass read.word) read.word found q r)
+      (others : ¬ HoldsAll o.shape p) where
     abbrev made : Made o.shape Load read.word found found q r
     made = made_load M o read.word found q r step
 
@@ -54,12 +60,16 @@ module _ (M : Meaning) (o : Origin) (desc i : ℕ) (reads : List Read) (read : R
       steps = steps;
       goes = both_after o.shape v.steps (made.step ∷ []) p q r v.goes made.goes;
       looks = looks;
-      finds = λ k h. ⊎_elim
-          (λ (less : k < i). standing_more desc (get_or reads k NO_READ) v.steps (made.step ∷ []) (v.finds k less))
+      finds = inl (λ k h. ⊎_elim
+          (λ (less : k < i). standing_more desc (get_or reads k NO_READ) v.steps (made.step ∷ []) (before k less))
           (λ (most : i ≤ k). subst (λ j. FoundStanding desc (get_or reads j NO_READ) steps) (omega (arith, h, most)) (subst (λ x. FoundStanding desc x steps) is this))
-          (cases_lt k i);
+          (cases_lt k i));
+      alone = λ all. absurd (others all);
     }
       where
+        before : (k : ℕ) → k < i → FoundStanding desc (get_or reads k NO_READ) v.steps
+        before = ⊎_elim (λ found. found) (λ all. absurd (others all)) v.finds
+
         this : FoundStanding desc read steps
         this = record { found = found; loads = (made.step, Contains-push v.steps made.step, load_finds o.shape read.word found found q r made); stands = stands }
 
@@ -84,4 +94,5 @@ module _ (M : Meaning) (o : Origin) (desc i : ℕ) (reads : List Read) (read : R
             ((is_kept M o s.machine s.admitted).stamps.bound read.word held (subst (λ (h : Shape). IsCounted h read.word) (sym s.admitted.shape) read_counted)
             (inl (s.pass, q, s.acts.at, some_after (Meets read.word held) o.shape v.steps p q v.goes met)));
       };
+      alone = λ all. absurd (others all);
     }

@@ -1,4 +1,4 @@
-use Rattle.std.proofs.Common.{◌≡◌, ℕ, Result, Ok, Err, sym, subst, refl, arith}
+use Rattle.std.proofs.Common.{◌≡◌, ℕ, List, Result, Ok, Err, sym, subst, refl, inl, arith}
 use Rattle.std.specs.Result.{is_ok}
 use Rattle.md_words.specs.declared.shape.Shape.{Shape}
 use Rattle.md_words.specs.declared.status.Status.TheVariants.{InProg}
@@ -22,14 +22,14 @@ commit-requires-clause-may c =
     let desc = c.args.desc in
     let p = c.args.pass.now.view in
     let from = status_word InProg 0 0 in
-    let may : MayCommit o.shape p desc from = record {
+    let may : (words : List ℕ) → MayCommit o.shape words p desc from = λ words. record {
       exists = c.requires.exists;
       in_progress = status_of-status_word InProg 0 0;
       since = c.requires.since;
-      stood = λ i below. absurd (let none : reads_of from ≡ 0 = reads_of-status_word InProg 0 0 (omega arith) in let no : ⊥ = omega (arith, below, none) in no);
+      stood = inl (λ i below. absurd (let none : reads_of from ≡ 0 = reads_of-status_word InProg 0 0 (omega arith) in let no : ⊥ = omega (arith, below, none) in no));
     } in
     subst (λ w. May cell_meaning o (λ pass. commit pass desc w) p) (sym c.first_status.ensures)
-    (λ m a pass acts. (after_commit m pass p desc from, (p, acts, subst (λ (s : Shape). MayCommit s p desc from) (sym a.shape) may, refl)))
+    (λ m a pass acts. (after_commit m pass p desc from, (p, acts, subst (λ (s : Shape). MayCommit s m.words p desc from) (sym a.shape) (may m.words), refl)))
 
 -- by the answer of the exchange
 commits : (o : Origin) (desc : ℕ) (p q : PassView) (r : Result (Unit {0}) ℕ)

@@ -23,7 +23,8 @@ commit-requires-clause-may g c =
     let p = c.args.pass.now.view in
     let q = c.validate.new.pass.view in
     let v = validated_at o.shape c.args.desc c.of.result c.args.status c.validate.result true p q c.of.ensures.parts c.if-validate.true c.validate.ensures.validated in
-    may_commit g.T.Theory.meaning o q c.args.desc c.args.status (may_commit_by o.shape p q c.args.desc c.args.status c.requires.attempt.exists c.requires.in_progress c.requires.attempt.met v)
+    may_commit g.T.Theory.meaning o q c.args.desc c.args.status
+    (λ m a pass acts. may_commit_by o.shape m.words p q c.args.desc c.args.status c.requires.attempt.exists c.requires.in_progress c.requires.attempt.met v)
 
 pub end_of-requires : goal.end_of-requires
 end_of-requires g c =

@@ -1,7 +1,7 @@
 -- A committed entry is sound, after every event.
 use Rattle.std.proofs.Common.{◌≤◌, ◌≡◌, ℕ, zero, suc, ◌<◌, ◌⊎◌, ◌++◌, ◌∷◌, List, [], length, refl, sym, ap, ◌∙◌, subst, inl, inr, ⊎_elim, true, arith}
 use Rattle.std.specs.List.{Contains, list_all}
-use Rattle.std.proofs.lemmas.Bool.{cond_both, and_from}
+use Rattle.std.proofs.lemmas.Bool.{cases_Bool, cond_both, and_from, true≢false}
 use lib.ListN.{get_elem?}
 use mathlib.Core.Option.{some, some-injective, some-ne-none}
 use Rattle.md_words.specs.declared.status.Status.{Status}
@@ -34,10 +34,10 @@ use Rattle.md_machine.specs.Stepping.{fate_told, with_fate}
 use Rattle.md_machine.specs.Trail.{Meets, read_stands}
 use Rattle.md_machine.specs.clauses.words.Formats.{AreFormats}
 use Rattle.md_machine.specs.clauses.words.Loads.{LoadStands, MeetsReady}
-use Rattle.md_machine.specs.clauses.words.Reads.{ReadFound}
+use Rattle.md_machine.specs.clauses.words.Reads.{MovedReads, ReadFound}
 use Rattle.md_machine.specs.clauses.entries.Sound.{CommittedAreSound, FlagsTell}
 use Rattle.md_machine.specs.clauses.words.Stores.{IsEntryWord}
-use Rattle.md_machine.specs.events.Decide.{Knows, MayCommit}
+use Rattle.md_machine.specs.events.Decide.{FoundRead, Knows, MayCommit, StandNow}
 use Rattle.md_machine.specs.events.Ready.{history_after_ready, history_entry}
 
 -- all of a list pass where each element does
@@ -84,7 +84,7 @@ element_in (y ∷ ys) (suc i) x e = there y ys x (element_in ys i x e)
 
 -- what a commit found of each read of the entry
 module _ (m : Machine) (pass : ℕ) (p : PassView) (at : IsAt m pass p) (loads : EachPair (LoadStands (shape_of m) m.words m.history) m.passes) (found : EachPair (ReadFound (shape_of m) m.history) m.passes)
-    (stores : StoresStand (shape_of m) m.words m.passes) (desc from : ℕ) (may : MayCommit (shape_of m) p desc from) (few : reads_of from ≤ SET) (stands : status_at m desc ≡ from)
+    (moved : MovedReads m.words m.history) (stores : StoresStand (shape_of m) m.words m.passes) (desc from : ℕ) (may : MayCommit (shape_of m) m.words p desc from) (few : reads_of from ≤ SET) (stands : status_at m desc ≡ from)
     (e : HistoryEntry) (c : Contains m.history e) (f : Fate) (fits : PresentFits (shape_of m) m.words e f) (mine_desc : e.attempt.desc ≡ desc) (mine_serial : e.attempt.serial ≡ serial_of from) where
   meets : MeetsReady (shape_of m) e.attempt may.since.step
   meets = (from, subst (λ d. Meets (address (shape_of m) (desc_status d)) from may.since.step) (sym mine_desc) may.since.such, sym mine_serial, λ prep. prog_prep (sym may.in_progress ∙ prep))
@@ -105,19 +105,42 @@ module _ (m : Machine) (pass : ℕ) (p : PassView) (at : IsAt m pass p) (loads :
       ap (content m) (sym l.there) ∙ sym same ∙ l.before)
       (λ l. stores pass p at (attempt_of desc (serial_of from)) (ap serial_of (sym stands)) (address (shape_of m) q) held (subst (IsEntryWord desc) (sym place) is) l)
 
+  -- the entry's reads are those that stand in the descriptor
+  module _ (i : ℕ) (r : Read) (r_at : get_elem? e.reads i ≡ some r) where
+    below : i < reads_of from
+    below =
+        let inside = at_below e.reads i r r_at in
+        let count = fits.count in
+        let status = ap (λ d. reads_of (status_at m d)) mine_desc ∙ ap reads_of stands in omega (arith, inside, count, status)
+
+    word_is : word_at (shape_of m) m.words (read_word desc i) ≡ r.word
+    word_is = ap (λ d. word_at (shape_of m) m.words (read_word d i)) (sym mine_desc) ∙ fits.word i r r_at
+
+    content_is : word_at (shape_of m) m.words (read_content desc i) ≡ r.content
+    content_is = ap (λ d. word_at (shape_of m) m.words (read_content d i)) (sym mine_desc) ∙ fits.content i r r_at
+
+    -- a read that was found to stand
+    stood_found : FoundRead true (shape_of m) p may.since.later (attempt_of desc (serial_of from)) i → r.stood ≡ true
+    stood_found known =
+        let l = known.0 in
+        let less = below in
+        let small : i < SET = omega (arith, less, few) in
+        let word : l.word ≡ r.word = sym (knows_word (read_word desc i) (may.exists, small) refl l.word l.knows_word) ∙ word_is in
+        let recorded : l.recorded ≡ r.content = sym (knows_word (read_content desc i) (may.exists, small) refl l.recorded l.knows_content) ∙ content_is in
+        let t = l.loads in let s = t.0 in let finds = t.2.finds in
+        let stood : read_stands e.attempt.desc r.content s.before ≡ true = ap (λ d. read_stands d r.content s.before) mine_desc ∙ ap (λ x. read_stands desc x s.before) (sym recorded) ∙ ap (read_stands desc l.recorded) finds.before ∙ known.1 in
+        pairs_of (ReadFound (shape_of m) m.history) may.since.earlier may.since.step may.since.later s (found pass p at _ may.since.segment) t.1 e c meets r (element_in e.reads i r r_at) (finds.there ∙ word) finds.found stood
+
+    -- one that stands now: a read that moved never stands again
+    stood_now : StandNow (shape_of m) m.words desc (reads_of from) → r.stood ≡ true
+    stood_now now =
+        let held = content m r.word in
+        let same : read_stands e.attempt.desc r.content held ≡ true = ap (λ d. read_stands d r.content held) mine_desc ∙ ap (λ x. read_stands desc x held) (sym content_is)
+            ∙ ap (λ w. read_stands desc (word_at (shape_of m) m.words (read_content desc i)) (content m w)) (sym word_is) ∙ now i below in
+        ⊎_elim (λ yes. yes) (λ fell. absurd (true≢false (sym same ∙ (moved e c r (element_in e.reads i r r_at) fell).gone))) (cases_Bool r.stood)
+
   read_stood : (i : ℕ) (r : Read) → get_elem? e.reads i ≡ some r → r.stood ≡ true
-  read_stood i r r_at =
-      let inside = at_below e.reads i r r_at in
-      let count = fits.count in
-      let status = ap (λ d. reads_of (status_at m d)) mine_desc ∙ ap reads_of stands in
-      let known = may.stood i (omega (arith, inside, count, status)) in
-      let l = known.0 in
-      let small : i < SET = omega (arith, inside, count, status, few) in
-      let word : l.word ≡ r.word = sym (knows_word (read_word desc i) (may.exists, small) refl l.word l.knows_word) ∙ ap (λ d. word_at (shape_of m) m.words (read_word d i)) (sym mine_desc) ∙ fits.word i r r_at in
-      let recorded : l.recorded ≡ r.content = sym (knows_word (read_content desc i) (may.exists, small) refl l.recorded l.knows_content) ∙ ap (λ d. word_at (shape_of m) m.words (read_content d i)) (sym mine_desc) ∙ fits.content i r r_at in
-      let t = l.loads in let s = t.0 in let finds = t.2.finds in
-      let stood : read_stands e.attempt.desc r.content s.before ≡ true = ap (λ d. read_stands d r.content s.before) mine_desc ∙ ap (λ x. read_stands desc x s.before) (sym recorded) ∙ ap (read_stands desc l.recorded) finds.before ∙ known.1 in
-      pairs_of (ReadFound (shape_of m) m.history) may.since.earlier may.since.step may.since.later s (found pass p at _ may.since.segment) t.1 e c meets r (element_in e.reads i r r_at) (finds.there ∙ word) finds.found stood
+  read_stood i r r_at = ⊎_elim (λ looked. stood_found i r r_at (looked i (below i r r_at))) (stood_now i r r_at) may.stood
 
   pub commits_sound : FlagsTell m.history → e.entry.sound ≡ true
   commits_sound flags = flags e c ∙ all_pass e.reads read_stood
@@ -133,6 +156,7 @@ pub record SoundNow (m : Machine) : Type 0 where
   pub stores : StoresStand (shape_of m) m.words m.passes
   pub loads : EachPair (LoadStands (shape_of m) m.words m.history) m.passes
   pub found : EachPair (ReadFound (shape_of m) m.history) m.passes
+  pub moved : MovedReads m.words m.history
   pub sound : CommittedAreSound m
 
 -- the fate of an entry whose attempt is committed by a step is that of a sound one
@@ -144,7 +168,7 @@ decided_sound m n v k x = sound_told m.history m.fates (attempt_of x.desc (seria
     let stands : status_at m x.desc ≡ x.from = ap (content m) (sym x.there) ∙ x.was in
     let fits = entry_fits (shape_of m) m.words m.history m.fates e k.entries c in
     let present = fits.1.present (parts.1 ∙ ap serial_of (sym (ap (status_at m) parts.0 ∙ stands))) in
-    commits_sound m v.pass v.p v.at k.loads k.found k.stores x.desc x.from may.1 (subst (λ s. reads_of s ≤ SET) stands (k.formats.status x.desc may.1.exists).few) stands e c fits.0 present parts.0 parts.1 k.sound.flags)
+    commits_sound m v.pass v.p v.at k.loads k.found k.moved k.stores x.desc x.from may.1 (subst (λ s. reads_of s ≤ SET) stands (k.formats.status x.desc may.1.exists).few) stands e c fits.0 present parts.0 parts.1 k.sound.flags)
     (λ may. absurd (aborted_no (sym may.0 ∙ committed)))
     x.may)
     k.sound.sound

@@ -5,7 +5,7 @@ use Rattle.md_words.specs.Place.{desc_status}
 use Rattle.md_machine.specs.declared.step.Kind.TheVariants.{Abort, Commit}
 use Rattle.md_machine.specs.Event.{abort, commit}
 use Rattle.md_machine.specs.events.Decide.{decided_word}
-use Rattle.md_help.proofs.Deciding.{abort_lost, abort_won, commit_lost, commit_won, may_abort, may_commit}
+use Rattle.md_help.proofs.Deciding.{abort_lost, abort_won, commit_lost, commit_won}
 use Rattle.md_help.proofs.Steps.{stands_made}
 use Rattle.md_nbtc_law.specs.Deciding.{MayDecide}
 use Rattle.md_nbtc_law.proofs.decisions.Settling.{found_decided, settled_abort, settled_commit, settled_found}
@@ -17,9 +17,7 @@ use Rattle.md_nbtc_sets.proofs.deciding.settle.Goals as goal
 
 pub commit-requires-clause-may : goal.commit-requires-clause-may
 commit-requires-clause-may g c =
-    let o = c.args.field.now.origin in
-    let p = c.args.pass.now.view in
-    may_commit g.T.Theory.meaning o p c.args.attempt.desc c.args.from (subst (MayDecide o.shape p c.args.attempt.desc c.args.from) c.in-None.is c.requires.may)
+    subst (MayDecide g.T.Theory.meaning c.args.field.now.origin c.args.pass.now.view c.args.attempt.desc c.args.from) c.in-None.is c.requires.may
 
 pub fate_in-requires-clause-decided : goal.fate_in-requires-clause-decided
 fate_in-requires-clause-decided g c =
@@ -29,9 +27,7 @@ fate_in-requires-clause-decided g c =
 
 pub abort-requires-clause-may : goal.abort-requires-clause-may
 abort-requires-clause-may g c =
-    let o = c.args.field.now.origin in
-    let p = c.args.pass.now.view in
-    may_abort g.T.Theory.meaning o p c.args.attempt.desc c.args.from (subst (MayDecide o.shape p c.args.attempt.desc c.args.from) c.in-Some.is c.requires.may)
+    subst (MayDecide g.T.Theory.meaning c.args.field.now.origin c.args.pass.now.view c.args.attempt.desc c.args.from) c.in-Some.is c.requires.may
 
 pub fate_in-requires-in-Err-abort-clause-decided : goal.fate_in-requires-in-Err-abort-clause-decided
 fate_in-requires-in-Err-abort-clause-decided g c =
