@@ -4,6 +4,7 @@ pub mod At
 pub mod Walked
 pub mod ListWords
 pub mod OnNode
+pub mod Returning
 pub mod Marks
 pub mod Unlinks
 pub mod MarkedNext

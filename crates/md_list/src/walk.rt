@@ -10,7 +10,7 @@ ghost use Rattle.md_list.specs.Walking.{FindsFrom, IsWalking};
 
 use md_history::Stop;
 use md_list_law::HasLists;
-use md_nbtc::{Kind, Seen, Txn};
+use md_nbtc::{Kind, MOST_LOST, Seen, Txn};
 
 /// The place of a key in a list. Neither `at` nor `next` is marked.
 #[derive(Clone, Copy, Debug, PartialEq, Eq)]
@@ -33,13 +33,16 @@ pub struct Found {
 /// It unlinks each removed node that it meets: the word before the node then names the node after
 /// it. The unlink is a part of the transaction if the transaction itself marked the node, if it
 /// recorded or wrote the word before the node, or if this is the next word of a node that it took.
-/// Any other unlink is made at once, by a plain change. So the call writes at most one word more
+/// Any other unlink is made at once, by a plain change. If that is lost to another pass, the walk
+/// goes on from what it then sees in the word before the node. So the call writes at most one word more
 /// for each word that the transaction had recorded or written, and one for each node that it had
 /// taken. It records no word and takes no node.
 ///
 /// If a load or an exchange is refused, it returns that stop, and the transaction keeps it:
 ///
-/// - `Conflict` if a word was changed by another pass meanwhile (`Txn::load`, `Txn::exchange`);
+/// - `Conflict` if a word was changed by another pass meanwhile (`Txn::load`, `Txn::exchange`); of
+///   a word before an unlink that isn't a part of the transaction only if its node was removed too,
+///   or if 1000 such unlinks were lost;
 /// - `Limit::Writes` if an unlink is a part of the transaction, needs one more written word, and
 ///   128 are written;
 /// - `Limit::Worn` if the word of an unlink has a count of 4,294,967,292 or more.
@@ -50,12 +53,13 @@ pub struct Found {
 /// It takes one load of the head. For each node that stands, it takes one load of its next word,
 /// and one step for its key. For each removed node, it takes one load of its next word and one
 /// exchange. The exchange takes one step if it is plain or if its word is an own one, and otherwise
-/// four. Keys don't fall from node to node, and of nodes with one key each names a later one, so no
-/// node is met twice. It takes no memory.
+/// four. A lost plain one takes a load more. Keys don't fall from node to node, and of nodes with
+/// one key each names a later one, so no node is met twice, except after a lost exchange. It takes
+/// no memory.
 ///
 /// After M. M. Michael, "High Performance Dynamic Lock-Free Hash Tables and List-Based Sets"
-/// (2002). It differs from Michael's find in three ways. It doesn't start again after a lost
-/// exchange, since the transaction then stops. It doesn't look at `prev` again before it reads the
+/// (2002). It differs from Michael's find in three ways. After a lost exchange it doesn't start
+/// again at the head, but goes on from the word before. It doesn't look at `prev` again before it reads the
 /// key: the operation records or changes what was found, and the transaction commits only if that
 /// still stands. And a node that the transaction itself marked isn't unlinked at once, since the
 /// mark holds only if the transaction commits.
@@ -73,8 +77,9 @@ pub fn find<'a, T: HasLists>(tx: &mut Txn<'a, T>, head: u32, key: u64) -> Result
 {
     let mut prev = head;
     let mut at = tx.load(prev)?;
-    // No node is met twice, so there are no more turns than nodes.
-    for _ in 0..u32::MAX {
+    let mut lost = 0;
+    // Without a lost unlink no node is met twice, so there are turns enough.
+    for _ in 0..u64::MAX {
         let node = at.value / 2;
         if node == 0 {
             break;
@@ -88,7 +93,16 @@ pub fn find<'a, T: HasLists>(tx: &mut Txn<'a, T>, head: u32, key: u64) -> Result
             } else {
                 Kind::Plain
             };
-            at = tx.exchange(prev, at, next.value - 1, kind)?;
+            let was = at;
+            at = tx.exchange(prev, was, next.value - 1, kind)?;
+            if at.value == next.value - 1 {
+                continue;
+            }
+            // Another pass changed the word. If it removed the node before, the walk can't go on.
+            lost += 1;
+            if lost == MOST_LOST || at.value % 2 == 1 {
+                return Err(tx.give_up(prev, was, at));
+            }
             continue;
         }
         let key_word = tx.shape().node_key(node);

@@ -5,7 +5,8 @@ ghost use Rattle.std.specs.List.{Contains, list_any};
 ghost use Rattle.md_words.specs.declared.limits.TheConstants.{SET};
 ghost use Rattle.md_words.specs.PlaceAt.{IsCounted};
 ghost use Rattle.md_nbtc_law.specs.declared.seen.Seen.{Seen};
-ghost use Rattle.md_nbtc_law.specs.Calls.{AfterStop, Exchanges, GoesOn, MayBeOf, MayExchange};
+ghost use Rattle.md_nbtc_law.specs.Calls.{AfterStop, Exchanges, GoesOn, IsOvertaken, MayBeOf};
+ghost use Rattle.md_nbtc_law.specs.Calls.{MayExchange};
 ghost use Rattle.md_nbtc_law.specs.Calls.{case_by_count, case_of_other, exchange_case, is_critical};
 ghost use Rattle.md_nbtc_law.specs.Calls.{is_next_word, makes_step, refusal_by, with_change};
 ghost use Rattle.md_nbtc_law.specs.Calls.ExchangeCase.{changes, installs};
@@ -13,7 +14,7 @@ ghost use Rattle.md_nbtc_law.specs.Exchanging.{HoldsSlot, MayPutInSlot, Stored};
 ghost use Rattle.md_nbtc_law.specs.Going.{IsUnderWay};
 ghost use Rattle.md_nbtc_law.specs.Seeing.{Gave, KeepsGiven};
 ghost use Rattle.md_nbtc_law.specs.Sets.{with_new};
-ghost use Rattle.md_nbtc_law.specs.State.{shape_in, taken_of_lane};
+ghost use Rattle.md_nbtc_law.specs.State.{seen_content, shape_in, taken_of_lane};
 ghost use Rattle.md_nbtc.specs.Exchanging.{ChangesPass, GivesWord, IsOtherWord, IsOwnWord};
 ghost use Rattle.md_nbtc.specs.Exchanging.{IsStoredNext, MayChangePlainly};
 ghost use Rattle.md_nbtc.specs.State.{state};
@@ -42,11 +43,14 @@ impl<'a, T: Theory> Txn<'a, T> {
     /// 5. If the count is 4,294,967,292 or more, it returns `Limit(Worn)`. No step.
     /// 6. If the change is critical, it puts the descriptor, at the next slot, into the word. Four
     ///    steps.
-    /// 7. It makes the plain change at once. One step.
+    /// 7. It makes the plain change at once. One step. If the word was changed meanwhile, the
+    ///    change isn't made. The call then looks at the word again, as `load` does, and returns what
+    ///    it sees there, or the stop that `load` returns.
     ///
-    /// If the word was changed meanwhile, 6 and 7 return `Conflict`, with what was seen and what
-    /// was found. Another pass is live then. The transaction keeps each stop. The call takes no
-    /// memory, and searches the recorded and the written words.
+    /// If the word was changed meanwhile, 6 returns `Conflict`, with what was seen and what was
+    /// found. After 7, the caller goes on from what is seen then, or ends the transaction by
+    /// `give_up`. Another pass is live in both cases. The transaction keeps each stop. The call
+    /// takes no memory, and searches the recorded and the written words.
     #[inline(always)]
     pub fn exchange(&mut self, word: u32, from: Seen, to: u32, kind: Kind) -> Result<Seen, Stop>
         requires going { IsUnderWay T.meaning (state self.old) }
@@ -292,7 +296,33 @@ impl<'a, T: Theory> Txn<'a, T> {
         }
     }
 
-    // Changes a word by a plain exchange, which is tidy. One step.
+    /// Stops the transaction, and returns the stop, which it keeps: a `Conflict`, with what was seen
+    /// in a word and what was seen there after it. For a plain exchange that was lost, if the caller
+    /// can't go on from what was seen then. It takes no step.
+    pub fn give_up(&mut self, word: u32, was: Seen, now: Seen) -> Stop
+        requires going { IsUnderWay T.meaning (state self.old) }
+        requires overtaken { IsOvertaken (state self.old) word was now }
+        ensures pass { self.new.pass.ghost_name ≡ self.old.pass.ghost_name }
+        ensures on { GoesOn T.meaning (state self.old) (state self.new) }
+        ensures stop { result ≡ Stop.Conflict (record {
+          word = word;
+          was = seen_content was;
+          now = seen_content now;
+        }) }
+        ensures kept { state self.new ≡ record (state self.old) { stop = Some result } }
+    {
+        let was = Content {
+            value: was.value,
+            count: was.count,
+        };
+        let now = Content {
+            value: now.value,
+            count: now.count,
+        };
+        self.lose(word, was.word(), now.word())
+    }
+
+    // Changes a word by a plain exchange, which is tidy. One step. After a lost one it looks again.
     fn change_plainly(&mut self, word: u32, from: Seen, to: u32) -> Result<Seen, Stop>
         requires going { IsUnderWay T.meaning (state self.old) }
         requires other { IsOtherWord (state self.old) word from }
@@ -313,11 +343,11 @@ impl<'a, T: Theory> Txn<'a, T> {
                 count: from.count + 2,
                 own: false,
             }),
-            Err(found) => Err(self.lose(word, old.word(), found)),
+            Err(_) => self.load_other(word),
         }
     }
 
-    // Keeps the conflict that a lost exchange shows.
+    // Keeps a conflict that a lost exchange shows.
     #[cold]
     #[inline(never)]
     fn lose(&mut self, word: u32, was: u64, now: u64) -> Stop

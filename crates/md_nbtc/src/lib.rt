@@ -5,7 +5,7 @@
 //!
 //! `Txn::begin` begins a transaction, and `Begun::with` lends it room for what it keeps (`Sets`).
 //! Between `start_op` and `end_op`, an operation looks at words (`load`, `field_of`), records them
-//! (`note`), changes them (`exchange`), takes new nodes (`fresh`), and puts off cleanups until the
+//! (`note`), changes them (`exchange`, `give_up`), takes new nodes (`fresh`), and puts off cleanups until the
 //! commit (`later`). `stop` ends the transaction without effect. `ready` fixes its place in the
 //! history, and `Ready::decide` commits it, with a `Receipt`, or aborts it. Contracts see a
 //! transaction by its state (`state`). md_nbtc_law says what such a state is and what the steps
@@ -21,7 +21,7 @@
 
 pub use begin::Begun;
 pub use ending::{NotReady, Ready};
-pub use md_nbtc_law::{Cleanup, Kind, Seen, Slot};
+pub use md_nbtc_law::{Cleanup, Kind, MOST_LOST, Seen, Slot};
 pub use md_nbtc_sets::{Receipt, Sets, decided_status, take_left_out};
 pub use txn::Txn;
 

@@ -1,16 +1,16 @@
 //! How a transaction looks at a word.
 
-ghost use Rattle.std.specs.Prelude.{◌≡◌, ◌<◌, ◌≤◌, ◌^◌, false, None, Some};
+ghost use Rattle.std.specs.Prelude.{◌≡◌, ◌<◌, ◌≤◌, ◌^◌, ℕ, IfOk, false, None, Some};
 ghost use Rattle.md_words.specs.Content.{count_of, word_of};
 ghost use Rattle.md_words.specs.PlaceAt.{IsCounted};
 ghost use Rattle.md_machine.specs.declared.step.TheConstants.{LAST_COUNT};
 ghost use Rattle.md_machine.specs.events.Install.{installed_word};
 ghost use Rattle.md_nbtc_law.specs.Calls.{AfterStop, GoesOn, Looked};
-ghost use Rattle.md_nbtc_law.specs.Going.{IsUnderWay};
-ghost use Rattle.md_nbtc_law.specs.Looking.{LookSteps};
+ghost use Rattle.md_nbtc_law.specs.Going.{HasCause, IsUnderWay};
+ghost use Rattle.md_nbtc_law.specs.Looking.{LookSteps, WasOvertaken};
 ghost use Rattle.md_nbtc_law.specs.Seeing.{KeepsGiven};
 ghost use Rattle.md_nbtc_law.specs.Sets.{place_of};
-ghost use Rattle.md_nbtc_law.specs.State.{shape_in};
+ghost use Rattle.md_nbtc_law.specs.State.{seen_content, shape_in};
 ghost use Rattle.md_nbtc.specs.State.{state};
 
 use crate::txn::Txn;
@@ -116,7 +116,7 @@ impl<'a, T: Theory> Txn<'a, T> {
 
     // Looks at any other word.
     #[inline(always)]
-    fn load_other(&mut self, word: u32) -> Result<Seen, Stop>
+    pub(crate) fn load_other(&mut self, word: u32) -> Result<Seen, Stop>
         requires going { IsUnderWay T.meaning (state self.old) }
         requires counted { IsCounted (shape_in (state self.old)) word }
         requires none { place_of (state self.old).slots word 0 ≡ None }
@@ -125,6 +125,12 @@ impl<'a, T: Theory> Txn<'a, T> {
         ensures looked { Looked T.meaning (state self.old) (state self.new) word result }
         ensures steps { LookSteps (state self.old) (state self.new) word result }
         ensures given { KeepsGiven (state self.old) (state self.new) word }
+        ensures overtaken { IfOk result (λ seen. (was : ℕ) → WasOvertaken (state self.old) word was
+            → HasCause (state self.new) (Stop.Conflict (record {
+              word = word;
+              was = was;
+              now = seen_content seen;
+            }))) }
     {
         let was = look_at(self.field, self.pass, word, self.desc, &self.sets.slots);
         let found = Content::of(was);

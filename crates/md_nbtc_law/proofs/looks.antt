@@ -12,5 +12,6 @@ pub mod Clearings
 pub mod ClearedLooks
 pub mod LeftLooks
 pub mod Awaited
+pub mod Overtaken
 pub mod OwnSlots
 pub mod OwnLooks

@@ -1,5 +1,5 @@
 -- What the calls of a transaction do to it. A call does the first of its cases that applies.
-use Rattle.std.specs.Prelude.{◌≡◌, ◌==◌, ◌||◌, ◌≤◌, ◌+◌, ◌<◌, ◌⊎◌, ℕ, Bool, true, false, List, [], ◌∷◌, ◌++◌, map, Contains, Option, Some, None, Result, Ok, Err, MatchResult, length, if◌then◌else◌, nat_le, is_some}
+use Rattle.std.specs.Prelude.{◌≡◌, ◌==◌, ◌||◌, ◌≤◌, ◌+◌, ◌<◌, ◌⊎◌, ℕ, Bool, true, false, List, [], ◌∷◌, ◌++◌, map, Contains, Option, Some, None, Result, Ok, Err, IfOk, MatchResult, length, if◌then◌else◌, nat_le, is_some}
 use Rattle.std.specs.List.{list_any}
 use Rattle.md_words.specs.declared.limits.TheConstants.{SET}
 use Rattle.md_words.specs.declared.shape.Shape.{Shape}
@@ -34,7 +34,7 @@ use Rattle.md_nbtc_law.specs.declared.seen.TheConstants.{WORN}
 use Rattle.md_nbtc_law.specs.declared.slots.Slot.{Slot}
 use Rattle.md_nbtc_law.specs.Cleaning.{CleanupsStay, MayTidyLater}
 use Rattle.md_nbtc_law.specs.Course.{MayEnd}
-use Rattle.md_nbtc_law.specs.Going.{IsFoundFirst, IsGoing}
+use Rattle.md_nbtc_law.specs.Going.{HasCause, IsFoundFirst, IsGoing}
 use Rattle.md_nbtc_law.specs.Known.{IsLater, KnowsPlaced}
 use Rattle.md_nbtc_law.specs.Seeing.{Gave, IsTidyNow, KeepsGiven, Looks, MayChange}
 use Rattle.md_nbtc_law.specs.Sets.{with_new}
@@ -212,9 +212,17 @@ with_change h word old new = record h { changes = h.changes ++ (record { word = 
 abbrev pub new_slot : TxnState → (word : ℕ) → Seen → (to : ℕ) → Slot
 new_slot t word from to = record { write = record { slot = length t.slots; word = word; old = seen_content from; new = to }; cleanup = None }
 
--- a step that was lost shows that the word moved
+-- an install that was lost shows that the word moved
 abbrev pub Lost : (t u : TxnState) → (word : ℕ) → Seen → Stop → Result Seen Stop → Type 0
 Lost t u word from s result = Refuses t u s result × ((now : ℕ) × (s ≡ Conflict (record { word = word; was = seen_content from; now = now })))
+
+-- another pass changed a word from what was seen there first to what was seen then: a conflict would have its cause
+abbrev pub IsOvertaken : TxnState → (word : ℕ) → (from seen : Seen) → Type 0
+IsOvertaken u word from seen = HasCause u (Conflict (record { word = word; was = seen_content from; now = seen_content seen }))
+
+-- a plain change was made; or it was lost, and this is what a new look at the word gave
+abbrev pub ChangedOrLost : (u : TxnState) → (word : ℕ) → (from : Seen) → (to : ℕ) → Seen → Type 0
+ChangedOrLost u word from to seen = (seen ≡ record { value = to; count = from.count + 2; own = false }) ⊎ IsOvertaken u word from seen
 
 abbrev pub Exchanges : ExchangeCase → Meaning → (t u : TxnState) → (word : ℕ) → Seen → (to : ℕ) → Result Seen Stop → Type 0
 Exchanges own M t u word from to result = (result ≡ Ok (record { value = to; count = from.count; own = true }))
@@ -227,9 +235,7 @@ Exchanges installs M t u word from to result = MatchResult result
     (λ seen. (seen ≡ record { value = to; count = from.count + 1; own = true })
     × (u ≡ record t { pass = u.pass; hand = with_change t.hand word from.value to; slots = t.slots ++ new_slot t word from to ∷ [] }))
     (λ s. Lost t u word from s result)
-Exchanges changes M t u word from to result = MatchResult result
-    (λ seen. (seen ≡ record { value = to; count = from.count + 2; own = false }) × (u ≡ record t { pass = u.pass }) × Looks M t u word seen)
-    (λ s. Lost t u word from s result)
+Exchanges changes M t u word from to result = Looked M t u word result × IfOk result (ChangedOrLost u word from to)
 
 -- the condition of an exchange, by its case: a kept cleanup still fits, or the word may be changed, and what was seen
 -- there was found so

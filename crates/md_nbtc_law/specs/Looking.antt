@@ -10,6 +10,8 @@ use Rattle.md_machine.specs.declared.step.Step.{Step}
 use Rattle.md_machine.specs.Certified.{is_written}
 use Rattle.md_machine.specs.Event.{load}
 use Rattle.md_machine.specs.Meaning.{Meaning}
+use Rattle.md_machine.specs.Moved.{Concerns}
+use Rattle.md_machine.specs.Trail.{Meets, SomeStep}
 use Rattle.md_help.specs.declared.clearing.Cleared.{Cleared}
 use Rattle.md_help.specs.After.{IsAfter, StandsInField}
 use Rattle.md_help.specs.Clears.{Clears}
@@ -17,7 +19,8 @@ use Rattle.md_rule.specs.Steps.{SteppedFrom}
 use Rattle.md_rule.specs.Views.{Origin}
 use Rattle.md_nbtc_law.specs.declared.seen.TheConstants.{LOOKS}
 use Rattle.md_nbtc_law.specs.declared.seen.Seen.{Seen}
-use Rattle.md_nbtc_law.specs.State.{TxnState, content_there, shape_in, writes_in}
+use Rattle.md_nbtc_law.specs.Prepared.{LeftThere}
+use Rattle.md_nbtc_law.specs.State.{TxnState, attempt_in, content_there, own_steps, shape_in, writes_in}
 
 -- a load of the word, which found and left the same
 pub record LooksAt (word : ℕ) (s : Step) : Type 0 where
@@ -68,6 +71,16 @@ pub record LooksOther (shape : Shape) (word left : ℕ) (before after : PassView
   pub looks : FewLooks shape word found before middle
   pub ends : ((is_even (count_of found) ≡ true) × (left ≡ found) × (after ≡ middle))
       ⊎ ((is_even (count_of found) ≡ false) × ((c : Cleared) × (left ≡ c.left) × Clears shape word found c middle after))
+
+-- own steps left an even content in a word, and later, when they tried to change the word, met another there with a higher
+-- count. They didn't change it since
+pub record WasOvertaken (t : TxnState) (word was : ℕ) : Type 0 where
+  pub even : is_even (count_of was) ≡ true
+  pub left : LeftThere (attempt_in t).desc word was (own_steps t)
+  pub concerns : Concerns (shape_in t) (attempt_in t) (own_steps t) word
+  pub held : ℕ
+  pub higher : count_of was < count_of held
+  pub met : SomeStep (Meets word held) t.pass.view.trail
 
 -- by which steps a look goes, and that its answer is by what they found or left last
 abbrev pub LookSteps : (t u : TxnState) → (word : ℕ) → Result Seen Stop → Type 0

@@ -16,7 +16,7 @@
 //! and **live**.
 #![tactic(auto)]
 
-pub use seen::{Cleanup, Kind, LOOKS, Seen, WORN};
+pub use seen::{Cleanup, Kind, LOOKS, MOST_LOST, Seen, WORN};
 pub use slots::{Lot, NO_LOT, NO_READ, NO_SLOT, Slot};
 
 mod seen;

@@ -6,6 +6,9 @@ pub const WORN: u32 = 4_294_967_292;
 /// So often a descriptor is looked at again at most, before it is cleared.
 pub const LOOKS: u32 = 300;
 
+/// A walk that loses so many plain changes to other passes gives up.
+pub const MOST_LOST: u32 = 1000;
+
 /// What a word stands for, as a transaction saw it.
 #[derive(Clone, Copy, Debug, PartialEq, Eq)]
 pub struct Seen {

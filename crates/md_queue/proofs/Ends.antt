@@ -1,6 +1,6 @@
 -- The tail, and the next word of its node: what is seen there, and after the tail was moved.
-use Rattle.std.proofs.Common.{◌≡◌, ◌≢◌, ◌<◌, ◌≤◌, ◌+◌, ◌^◌, ℕ, true, false, List, [], ◌∷◌, length, refl, sym, ap, ◌∙◌, subst, if◌then◌else◌, arith, ⊎_elim}
-use Rattle.std.proofs.lemmas.Bool.{cases_Bool}
+use Rattle.std.proofs.Common.{◌≡◌, ◌≢◌, ◌==◌, ◌<◌, ◌≤◌, ◌+◌, ◌^◌, ℕ, true, false, List, [], ◌∷◌, length, refl, sym, ap, ◌∙◌, subst, if◌then◌else◌, arith, ⊎_elim, eq-eqb, eqb-true}
+use Rattle.std.proofs.lemmas.Bool.{cases_Bool, cond-true, cond_both}
 use Rattle.std.proofs.lemmas.List.{length-append, length-map}
 use Rattle.md_words.specs.declared.shape.Shape.{Shape}
 use Rattle.md_words.specs.Layout.{address, node_count}
@@ -21,11 +21,12 @@ use Rattle.md_nbtc_law.specs.Sets.{with_new}
 use Rattle.md_nbtc_law.specs.State.{TxnState, shape_in, writes_in}
 use Rattle.md_nbtc_law.proofs.preparing.Heaps.{known_now}
 use Rattle.md_nbtc_law.proofs.preparing.Later.{known_later, later_over}
-use Rattle.md_nbtc_law.proofs.structures.Exchanging.{HasExchanged, changed_own, changed_plainly, installed}
+use Rattle.md_nbtc_law.proofs.structures.Exchanging.{HasExchanged, changed_own, changed_plainly, installed, plain_unowned}
 use Rattle.md_nbtc_law.proofs.structures.NodesKnown.{shape_later}
 use Rattle.md_queue_law.specs.Laws.Words.{tail_not_next}
 use Rattle.md_queue_law.specs.QueueMeaning.{HasQueuesOf}
 use Rattle.md_queue.specs.Operations.{GoesBy, IsBegun}
+use Rattle.md_queue.specs.Parts.{rank_after}
 use Rattle.md_queue.specs.Refusals.{WasToMove}
 use Rattle.md_queue.specs.Words.{move_kind, next_at, tail_at}
 use Rattle.md_queue.specs.Working.{SeesAt, SeesEnd, SeesTail, other_count, own_count}
@@ -80,9 +81,9 @@ module _ (M : Meaning) (lawful : Lawful M) (queues : HasQueuesOf M) (t : TxnStat
       → is_critical t (tail_at t queue) (move_kind next) ≡ true → WasToMove M t cs t queue
   end_refused some = was_to_move M lawful queues t queue cs ts s.sees_tail.working (linked_node tail.value) next s.next_sees some tail s.sees_tail.tail_sees refl t refl
 
-  -- the tail was moved by one rank
+  -- the tail was moved by one rank, unless another pass changed it
   pub followed : next.value ≢ 0 → (u : TxnState) → GoesOn M t u → tail.count < 2 ^ 32 → (seen : Seen) → Gave u (tail_at t queue) seen
-      → HasExchanged M t (tail_at t queue) tail next.value (move_kind next) u seen → SeesTail M u queue cs seen (least + 1)
+      → HasExchanged M t (tail_at t queue) tail next.value (move_kind next) u seen → SeesTail M u queue cs seen (rank_after next seen least)
   followed some u on fits seen gave ex =
       let m = moved M lawful queues t queue cs ts s.sees_tail.working (linked_node tail.value) next s.next_sees some tail s.sees_tail.tail_sees refl u on fits seen gave ex in
       record {
@@ -93,7 +94,9 @@ module _ (M : Meaning) (lawful : Lawful M) (queues : HasQueuesOf M) (t : TxnStat
             let over = later_over t u v on.later later in
             let key = next_rank M lawful queues t queue cs ts s.sees_tail.working (linked_node tail.value) next s.next_sees some v over prepared h of in
             let low = s.sees_tail.rank v over prepared h of in
-            subst (λ x. least + 1 ≤ (after_wholes h cs).words.key_of (linked_node x)) (sym m.value) (omega (arith, key, low));
+            cond_both (seen.value == next.value) (least + 1) 0 (λ n. n ≤ (after_wholes h cs).words.key_of (linked_node seen.value))
+            (λ same. subst (λ x. least + 1 ≤ (after_wholes h cs).words.key_of (linked_node x)) (sym (eqb-true seen.value next.value same)) (omega (arith, key, low)))
+            (λ _. omega arith);
       }
 
   -- a rank is below the number of nodes
@@ -108,6 +111,10 @@ module _ (M : Meaning) (lawful : Lawful M) (queues : HasQueuesOf M) (t : TxnStat
       let low = both.2.0 in
       let high = both.2.1 in
       omega (arith, low, high)
+
+-- after a move that was made the least rank is one more
+pub rank_made : (next tail : Seen) (least : ℕ) → tail.value ≡ next.value → rank_after next tail least ≡ least + 1
+rank_made next tail least same = cond-true (tail.value == next.value) (least + 1) 0 (eq-eqb tail.value next.value same)
 
 -- how many words an exchange wrote more
 module _ (M : Meaning) (t u : TxnState) (word : ℕ) (from : Seen) (to : ℕ) (kind : Kind) (seen : Seen) where
@@ -132,7 +139,7 @@ module _ (M : Meaning) (t u : TxnState) (word : ℕ) (from : Seen) (to : ℕ) (k
   moved_counts (changed_plainly e) gave =
       let l = ap (λ (x : TxnState). length x.slots) e.state_is in
       let one = count_other from (gave.own ∙ e.unwritten) in
-      let two = count_other seen (ap (λ (s : Seen). s.own) e.seen_is) in
+      let two = count_other seen (plain_unowned M t word from to kind u seen e) in
       (omega (arith, l, one.0, two.0), omega (arith, l, one.1))
 
 -- within a bound on what is written

@@ -9,11 +9,11 @@ use Rattle.md_machine.specs.Certified.{after_wholes, is_written}
 use Rattle.md_machine.specs.Meaning.{Lawful, Meaning}
 use Rattle.md_machine.specs.clauses.passes.Alone.{HoldsAll}
 use Rattle.md_nbtc_law.specs.declared.seen.Seen.{Seen}
-use Rattle.md_nbtc_law.specs.Calls.{GoesOn, MayExchange, is_critical}
+use Rattle.md_nbtc_law.specs.Calls.{GoesOn, IsOvertaken, MayExchange, is_critical}
 use Rattle.md_nbtc_law.specs.Seeing.{Gave, KeepsGiven, Looks}
 use Rattle.md_nbtc_law.specs.State.{TxnState, shape_in, writes_in}
 use Rattle.md_nbtc_law.proofs.preparing.Heaps.{known_now}
-use Rattle.md_nbtc_law.proofs.structures.Exchanging.{HasExchanged}
+use Rattle.md_nbtc_law.proofs.structures.Exchanging.{HasExchanged, lost_so}
 use Rattle.md_nbtc_law.proofs.structures.NodesKnown.{shape_later}
 use Rattle.md_queue_law.specs.Laws.Words.{head_not_tail, tail_not_next}
 use Rattle.md_queue_law.specs.QueueMeaning.{HasQueuesOf}
@@ -72,9 +72,13 @@ module _ (M : Meaning) (lawful : Lawful M) (queues : HasQueuesOf M) (t : TxnStat
         let m = moved M lawful queues t queue cs s.changes s.working (linked_node head.value) next s.next_sees some tail sees one_node u on fits seen gave ex in
         first_on M t u queue cs head next s on.later (tail_at t queue) given apart next_apart m.changes m.working
 
-    -- and isn't where the head is
-    pub moved_apart : (u : TxnState) → GoesOn M t u → tail.count < 2 ^ 32 → (seen : Seen) → Gave u (tail_at t queue) seen
+    -- a move that left the tail where the head is was lost
+    pub moved_lost : (u : TxnState) (seen : Seen) → seen.value ≡ head.value → HasExchanged M t (tail_at t queue) tail next.value (move_kind next) u seen → IsOvertaken u (tail_at t queue) tail seen
+    moved_lost u seen at ex = (lost_so M t (tail_at t queue) tail next.value (move_kind next) u seen (λ e. next_differs (sym e ∙ at)) ex).1
+
+    -- and any other left it elsewhere
+    pub moved_apart : (u : TxnState) → GoesOn M t u → tail.count < 2 ^ 32 → (seen : Seen) → seen.value ≢ head.value → Gave u (tail_at t queue) seen
         → HasExchanged M t (tail_at t queue) tail next.value (move_kind next) u seen → TailDiffers u queue head.value
-    moved_apart u on fits seen gave ex =
+    moved_apart u on fits seen elsewhere gave ex =
         let m = moved M lawful queues t queue cs s.changes s.working (linked_node head.value) next s.next_sees some tail sees one_node u on fits seen gave ex in
-        (seen, m.sees_tail.gave, λ e. next_differs (sym m.value ∙ e))
+        (seen, m.sees_tail.gave, elsewhere)

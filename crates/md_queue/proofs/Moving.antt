@@ -235,12 +235,11 @@ module _ (M : Meaning) (lawful : Lawful M) (queues : HasQueuesOf M) (t : TxnStat
               (λ unwritten plain. tidy_now (plain_other t (tail_at t queue) next plain));
         }
 
-    -- after it the tail has that value, and the operation made at most one more tidy change
+    -- after it the operation made at most one more tidy change
     pub record HasMoved (u : TxnState) (seen : Seen) : Type 0 where
       pub changes : List TidyChange
       pub working : IsWorking M u queue cs changes
       pub sees_tail : SeesAt M u (tail_at u queue) seen
-      pub value : seen.value ≡ next.value
 
     module _ (u : TxnState) (on : GoesOn M t u) (fits : tail.count < 2 ^ 32) where
       grown : IsCharged t (all_changes cs ++ changes_of_tidy ts) move → u.hand.operating ≡ t.hand.operating → u.hand.changes ≡ t.hand.changes ++ move.change ∷ [] → u.hand.stored ≡ t.hand.stored
@@ -265,7 +264,6 @@ module _ (M : Meaning) (lawful : Lawful M) (queues : HasQueuesOf M) (t : TxnStat
         working = grown (charged_written M t cs w.going ts w.tidied move e.written) (ap (λ x. x.hand.operating) e.state_is) (ap (λ x. x.hand.changes) e.state_is) (ap (λ x. x.hand.stored) e.state_is)
             (λ other. absurd (true≢false (sym (sees.gave.own ∙ e.written) ∙ other)));
         sees_tail = sees_new seen (record { gave = gave; there = λ other. absurd (true≢false (ap (λ (s : Seen). s.own) (sym e.seen_is) ∙ other)) });
-        value = ap (λ (s : Seen). s.value) e.seen_is;
       }
       moved seen gave (installed e) =
           let slot = new_slot t (tail_at t queue) tail next.value in
@@ -277,7 +275,6 @@ module _ (M : Meaning) (lawful : Lawful M) (queues : HasQueuesOf M) (t : TxnStat
                 (subst (λ (x : TxnState). Contains (writes_in x) slot.write) (sym e.state_is)
                 (map_in (λ (s : Slot). s.write) (t.slots ++ slot ∷ []) slot (Contains-append_right t.slots (slot ∷ []) slot (here slot [])))));
             sees_tail = sees_new seen (record { gave = gave; there = λ other. absurd (true≢false (ap (λ (s : Seen). s.own) (sym e.seen_is) ∙ other)) });
-            value = ap (λ (s : Seen). s.value) e.seen_is;
           }
       moved seen gave (changed_plainly e) = record {
         changes = ts;
@@ -289,5 +286,4 @@ module _ (M : Meaning) (lawful : Lawful M) (queues : HasQueuesOf M) (t : TxnStat
           charged = charged_on t u on.later (all_changes cs) ts w.charged;
         };
         sees_tail = sees_new seen (tail_looked M lawful queues t queue cs ts w u on seen e.looks);
-        value = ap (λ (s : Seen). s.value) e.seen_is;
       }

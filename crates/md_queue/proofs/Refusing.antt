@@ -85,7 +85,7 @@ module _ (M : Meaning) (t u : TxnState) (stop : Stop) (none : t.stop ≡ None) w
 
     by_plain : (b : Bool) → Exchanges (if b then worn else changes) M t u word from to (Err stop) → Critically
     by_plain true x = let e = x.0 in absurd (cc (e, limit))
-    by_plain false x = let e = x.1.1 in absurd (cc (e, limit))
+    by_plain false x = let e = x.0.1.1 in absurd (cc (e, limit))
 
     by_count : (b : Bool) → is_critical t word kind ≡ b → Exchanges (case_by_count b (length t.slots) from.count) M t u word from to (Err stop) → Critically
     by_count true is x = is

@@ -107,6 +107,10 @@ module _ (M : Meaning) where
       no_nodes = others;
     }
 
+    -- a transaction that was given up has the conflict
+    pub given_up : (stop : Stop) (shown : Shown) → stop ≡ Conflict shown → u ≡ record t { stop = Some stop } → t.hand.operating ≡ true → RefusedOtherwise M t u 0 0 stop
+    given_up stop shown is kept = halted stop (kept ∙ ap (λ p. record t { pass = p; stop = Some stop }) (sym (ap (λ (x : TxnState). x.pass) kept))) (λ by. cc (is, by))
+
     -- a refusal that isn't one by a limit, unless it is an old one
     module _ (A : Type 0) (stop : Stop) where
       err_same : (r : Stop) → (let e : Result A Stop = Err stop in e) ≡ Err r → r ≡ stop
@@ -241,7 +245,7 @@ module _ (M : Meaning) where
           (λ is. err_apart stop _ is.0 (λ e. let same : limit ≡ Worn word from.count = cc e in worn word from.count same)) t word from kind
           (λ written is by. let e = is.0 in cc e)
           (λ unwritten critical is. conflict_not_by limit stop _ is.1.1)
-          (λ unwritten plain is. conflict_not_by limit stop _ is.1.1)
+          (λ unwritten plain is. conflict_not_by limit stop _ is.0.1.1)
 
       pub exchange_not_by : (word : ℕ) (from : Seen) (to : ℕ) (kind : Kind) (stop : Stop)
           → AfterStop t.stop t u (let r : Result Seen Stop = Err stop in r) (Exchanges (exchange_case t word from kind) M t u word from to (Err stop)) → IsNotBy t limit stop
@@ -297,3 +301,7 @@ goes_up M t u a b c x y z is reads writes nodes =
       };
       same_stop = is.same_stop;
     }
+
+-- a conflict isn't one by a limit
+pub conflict_limit : {B : Type 0} (stop : Stop) (shown : Shown) (limit : Limit) → stop ≡ Conflict shown → stop ≡ Limited limit → B
+conflict_limit stop shown limit is by = cc (is, by)

@@ -154,7 +154,10 @@ fn follow_tail<'a, T: HasQueues>(tx: &mut Txn<'a, T>, queue: u32, first: First) 
     let tail_word = tx.shape().queue_tail(queue);
     let tail = tx.load(tail_word)?;
     if tail.value == first.head.value {
-        move_tail(tx, queue, tail, first.next)?;
+        let moved = move_tail(tx, queue, tail, first.next)?;
+        if moved.value == first.head.value {
+            return Err(tx.give_up(tail_word, tail, moved));
+        }
     }
     Ok(())
 }
@@ -194,6 +197,7 @@ fn take_first<'a, T: HasQueues>(tx: &mut Txn<'a, T>, queue: u32, first: First) -
 /// Then it has recorded at most two more words and written at most two:
 ///
 /// - `Conflict` if a word was changed by another pass, or was recorded with another content before;
+///   of the tail, if it isn't a word of the transaction, only if it still names the old node then;
 /// - `Limit(Reads)` if one more word must be recorded, and 128 are recorded;
 /// - `Limit(Writes)` if one more word must be written, and 128 are written;
 /// - `Limit(Worn)` if the head or the tail must be changed, and has a count of 4,294,967,292 or
@@ -204,7 +208,8 @@ fn take_first<'a, T: HasQueues>(tx: &mut Txn<'a, T>, queue: u32, first: First) -
 ///
 /// It takes eight steps: three loads, the value, and four to change the head. If the queue is
 /// empty, it takes six: two loads, and two notes of two steps. If the tail must be moved, it takes
-/// one more, or four if the move is a part of the transaction. It takes fewer if a word is recorded
+/// one more, or four if the move is a part of the transaction. A lost move takes a load more. It
+/// takes fewer if a word is recorded
 /// already or is an own one. A load takes more steps if another's descriptor stands in the word
 /// (`Txn::load`). The call takes no memory.
 ///
@@ -212,8 +217,8 @@ fn take_first<'a, T: HasQueues>(tx: &mut Txn<'a, T>, queue: u32, first: First) -
 /// Concurrent Queue Algorithms" (1996), with three differences. It doesn't look at the head again
 /// after it has read the next word. It doesn't look at the tail before it finds the queue empty. In
 /// place of both looks, the transaction records or changes each word that the reply depends on and
-/// that can change, and commits only if these still stand. A lost exchange isn't tried again, since
-/// the transaction then stops. And the node that the head leaves isn't freed: it stays taken until
+/// that can change, and commits only if these still stand. A lost exchange of the head isn't tried
+/// again, since the transaction then stops. And the node that the head leaves isn't freed: it stays taken until
 /// the field is renewed.
 pub fn dequeue<'a, T: HasQueues>(tx: &mut Txn<'a, T>, queue: u32) -> Result<Option<u64>, Stop>
     requires begun { IsBegun T.meaning (state tx.old) queue }

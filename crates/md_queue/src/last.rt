@@ -16,7 +16,7 @@ ghost use Rattle.md_queue.specs.Working.{SeesEnd, other_count};
 
 use crate::words::{link_next, load_next, move_later, move_tail, rank_of, take_node};
 use md_history::Stop;
-use md_nbtc::{Seen, Txn};
+use md_nbtc::{MOST_LOST, Seen, Txn};
 use md_queue_law::HasQueues;
 
 // What was seen in the tail, and in the next word of its node.
@@ -42,7 +42,7 @@ fn load_end<'a, T: HasQueues>(tx: &mut Txn<'a, T>, queue: u32) -> Result<End, St
     Ok(End { tail, next })
 }
 
-// Moves the tail to the next node.
+// Moves the tail to the next node, or finds it elsewhere if another pass changed it meanwhile.
 fn follow<'a, T: HasQueues>(tx: &mut Txn<'a, T>, queue: u32, end: End) -> Result<End, Stop>
     requires sees { (cs : List Certificate) × (least : ℕ)
         × SeesEnd T.meaning (state tx.old) queue cs end.tail end.next least }
@@ -76,12 +76,23 @@ fn find_last<'a, T: HasQueues>(tx: &mut Txn<'a, T>, queue: u32) -> Result<End, S
     ensures stopped { StaysStopped (state tx.old) (state tx.new) result }
 {
     let mut end = load_end(tx, queue)?;
-    // Ranks rise from node to node, so there are no more turns than nodes.
-    for _ in 0..u32::MAX {
+    let mut lost = 0;
+    // Without a lost move ranks rise from node to node, so there are turns enough.
+    for _ in 0..u64::MAX {
         if end.next.value == 0 {
             break;
         }
-        end = follow(tx, queue, end)?;
+        let was = end;
+        end = follow(tx, queue, was)?;
+        if end.tail.value == was.next.value {
+            continue;
+        }
+        // Another pass changed the tail.
+        lost += 1;
+        if lost == MOST_LOST {
+            let tail_word = tx.shape().queue_tail(queue);
+            return Err(tx.give_up(tail_word, was.tail, end.tail));
+        }
     }
     Ok(end)
 }
@@ -89,7 +100,8 @@ fn find_last<'a, T: HasQueues>(tx: &mut Txn<'a, T>, queue: u32) -> Result<End, S
 /// Appends a value to a queue of the field, as an operation of a transaction that was just begun.
 /// The value may be any. The caller ends the operation with `Nothing` as the reply of an `Enqueue`.
 ///
-/// It looks for the last node from the tail on, and moves the tail along. Then it takes a node for
+/// It looks for the last node from the tail on, and moves the tail along. If a move that isn't a part
+/// of the transaction is lost to another pass, it goes on from where the tail is then. Then it takes a node for
 /// the value, and changes the last node's next word to it as a part of the transaction. Other
 /// transactions meet the node once this one has committed. The transaction itself meets it at once.
 /// So its second enqueue appends behind the first, and moves the tail to the first one's node as a
@@ -100,7 +112,8 @@ fn find_last<'a, T: HasQueues>(tx: &mut Txn<'a, T>, queue: u32) -> Result<End, S
 ///
 /// If a call inside is refused, it returns that stop, and the transaction keeps it:
 ///
-/// - `Conflict` if a word was changed by another pass;
+/// - `Conflict` if a word was changed by another pass; of the tail, if it isn't a word of the
+///   transaction, only if 1000 moves were lost;
 /// - `Limit(Nodes)` if no lane of the pass has a node left;
 /// - `Limit(Writes)` if one more word must be written, and 128 are written;
 /// - `Limit(Worn)` if a word that must be changed has a count of 4,294,967,292 or more: the tail,
@@ -112,7 +125,7 @@ fn find_last<'a, T: HasQueues>(tx: &mut Txn<'a, T>, queue: u32) -> Result<End, S
 /// It takes eleven steps if the tail names the last node: one load of the tail, one of the next
 /// word, one step for the rank, four for the new node, and four for its link. It takes two more for
 /// each node by which the tail is behind, and three more once if the tail then becomes a word of
-/// the transaction. A load takes more steps if another's descriptor stands in the word
+/// the transaction. A lost move takes a load more. A load takes more steps if another's descriptor stands in the word
 /// (`Txn::load`). The move of the tail after the commit takes at most two. The call takes no
 /// memory.
 ///
@@ -123,7 +136,8 @@ fn find_last<'a, T: HasQueues>(tx: &mut Txn<'a, T>, queue: u32) -> Result<End, S
 /// it is taken after that node was found. Because ranks rise, a walk along next words ends, even if
 /// the transaction meets words that never stood together. It doesn't look at the tail again after
 /// it has read the next word: a next word that isn't 0 never changes, and the link is made only if
-/// the word is still 0. And a lost exchange isn't tried again, since the transaction then stops.
+/// the word is still 0. And a lost exchange of the next word isn't tried again, since the
+/// transaction then stops.
 pub fn enqueue<'a, T: HasQueues>(tx: &mut Txn<'a, T>, queue: u32, value: u64) -> Result<(), Stop>
     requires begun { IsBegun T.meaning (state tx.old) queue }
     ensures pass { tx.new.pass.ghost_name ≡ tx.old.pass.ghost_name }

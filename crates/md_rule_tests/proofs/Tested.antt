@@ -4,19 +4,19 @@ use Rattle.std.proofs.lemmas.Bool.{cond_both}
 use Rattle.std.proofs.lemmas.List.Elements.{All-append, All-cons, All-head, All-nil, All-tail}
 use Rattle.std.specs.List.{All}
 use Rattle.md_history.specs.declared.stops.Stop.{Stop}
-use Rattle.example_cell.specs.CellMeaning.{cell_meaning}
+use Rattle.example_cell.specs.CellMeaning.{cell_meaning, cell_word}
 use Rattle.md_rule.specs.Views.{FieldView, IsOf, PassState}
 use Rattle.md_words.specs.Layout.{IsNode, address}
 use Rattle.md_words.specs.Place.{node_next}
 use Rattle.md_words.specs.PlaceAt.{IsCounted}
 use Rattle.md_nbtc_law.specs.declared.seen.Kind.{Kind}
-use Rattle.md_nbtc_law.specs.declared.seen.Kind.TheVariants.{Critical}
+use Rattle.md_nbtc_law.specs.declared.seen.Kind.TheVariants.{Critical, Plain}
 use Rattle.md_nbtc_law.specs.declared.seen.Seen.{Seen}
 use Rattle.md_nbtc_law.specs.declared.slots.Slot.{Slot}
 use Rattle.md_nbtc_law.specs.Calls.{AfterStop, ExchangeCase, Exchanges, Freshened, GoesOn, Looked, MayExchange, NoteCase, Notes, changes, exchange_case, full, installs, moved, no_slot, note_case, noted, own, recorded, unread, with_operation, worn}
 use Rattle.md_nbtc_law.specs.Cleaning.{FitsCleanup}
 use Rattle.md_nbtc_law.specs.Going.{IsFoundThere, IsGoing}
-use Rattle.md_nbtc_law.specs.Seeing.{IsNextOf, Looks}
+use Rattle.md_nbtc_law.specs.Seeing.{IsNextOf, IsTidyNow, Looks}
 use Rattle.md_nbtc_law.specs.Sets.{with_new}
 use Rattle.md_nbtc_law.specs.State.{TxnState, shape_in}
 use Rattle.md_nbtc_law.proofs.structures.Exchanging.{may_exchange_so}
@@ -69,8 +69,8 @@ module _ (t u : TxnState) where
   kept_exchange worn word from to r e = kept_same t u (ap (λ x. x.hand) e.1) (ap (λ x. x.slots) e.1)
   kept_exchange installs word from to (Ok seen) e = record { operating = ap (λ x. x.hand.operating) e.1; plain = λ p. subst IsPlain (sym (ap (λ x. x.slots) e.1)) (All-append IsBare t.slots _ p (All-cons IsBare _ [] refl (All-nil IsBare))) }
   kept_exchange installs word from to (Err s) e = kept_same t u (ap (λ x. x.hand) e.0.1) (ap (λ x. x.slots) e.0.1)
-  kept_exchange changes word from to (Ok seen) e = kept_same t u (ap (λ x. x.hand) e.1) (ap (λ x. x.slots) e.1)
-  kept_exchange changes word from to (Err s) e = kept_same t u (ap (λ x. x.hand) e.0.1) (ap (λ x. x.slots) e.0.1)
+  kept_exchange changes word from to (Ok seen) e = kept_same t u (ap (λ x. x.hand) e.0.0) (ap (λ x. x.slots) e.0.0)
+  kept_exchange changes word from to (Err s) e = kept_same t u (ap (λ x. x.hand) e.0.0.1) (ap (λ x. x.slots) e.0.0.1)
 
   -- a fresh node
   kept_fresh : (key value next : ℕ) (r : Result ℕ Stop) → Freshened t u key value next r → Keeps t u
@@ -136,6 +136,29 @@ module _ (t u : TxnState) (word : ℕ) (seen : Seen) (apart : (node : ℕ) → I
         (λ node n. absurd (apart node (subst (λ x. IsNode x node × (word ≡ address x (node_next node))) same n)))
         (λ other. found_there looks (looks.gave.own ∙ other))
         (λ _ plain. absurd (true≢false plain));
+  }
+
+  -- a cell's word may be changed at once to the value that it has
+  tidy_now : word ≡ cell_word (shape_in u) → IsTidyNow cell_meaning u word seen.value seen.value
+  tidy_now is = record {
+    tidy = record { change = record { word = word; old = seen.value; new = seen.value }; nodes = []; facts = [] };
+    bare = refl;
+    change = refl;
+    tidies = record { held = seen.value; change = ap (λ w. record { word = w; old = seen.value; new = seen.value }) is; nodes = refl };
+    facts = All-nil _;
+    found = All-nil _;
+  }
+
+  pub may_renew : (f : FieldView) → IsOpen f u → IsCounted (shape_in u) word → word ≡ cell_word (shape_in u) → Looks cell_meaning t u word seen
+      → MayExchange cell_meaning u word seen seen.value Plain
+  may_renew f is counted cell looks = record {
+    operates = is.operating;
+    counted = counted;
+    gave = looks.gave;
+    of = may_exchange_so cell_meaning u word seen seen.value Plain (λ _. stays_so seen.value u.slots is.plain)
+        (λ node n. absurd (apart node (subst (λ x. IsNode x node × (word ≡ address x (node_next node))) same n)))
+        (λ other. found_there looks (looks.gave.own ∙ other))
+        (λ _ _. tidy_now cell);
   }
 
 -- an operation is begun of a transaction that has none

@@ -30,6 +30,10 @@ module _ (A : Type 0) (s : Stop) where
   no_conflict : {B : Type 0} (shown : Shown) (limit : Limit) → s ≡ Limited limit → s ≡ Conflict shown → B
   no_conflict shown limit is other = absurd (cc (is, other))
 
+-- a conflict isn't one by a limit
+pub conflict_unlimited : {B : Type 0} (A : Type 0) (s : Stop) (shown : Shown) → s ≡ Conflict shown → (limit : Limit) → (let e : Result A Stop = Err s in e) ≡ Err (Limited limit) → B
+conflict_unlimited A s shown is limit same = no_conflict A s shown limit (err_same A s (Limited limit) same) is
+
 -- an answer is no refusal
 pub no_refusal : {B : Type 0} (A : Type 0) (x : A) (s : Stop) → (let r : Result A Stop = Ok x in r) ≡ Err s → B
 no_refusal A x s e = absurd (cc e)
@@ -83,7 +87,7 @@ module _ (M : Meaning) (t u : TxnState) (s : Stop) where
       (λ is by. worn_reads _ _ (err_same Seen s _ is.0) by) t word from kind
       (λ written is. err_ok Seen s _ is.0)
       (λ unwritten critical is by. no_conflict Seen s _ Reads by is.1.1)
-      (λ unwritten plain is by. no_conflict Seen s _ Reads by is.1.1)
+      (λ unwritten plain is by. no_conflict Seen s _ Reads by is.0.1.1)
     where
       writes_reads : s ≡ Limited Writes → s ≡ Limited Reads → ⊥
       writes_reads a b = cc (a, b)
@@ -97,7 +101,7 @@ module _ (M : Meaning) (t u : TxnState) (s : Stop) where
 
     plain_count : (b : Bool) → Exchanges (if b then worn else changes) M t u word from to (Err s) → ⊥
     plain_count true is = worn_writes _ (err_same Seen s _ is.0)
-    plain_count false is = no_conflict Seen s _ Writes by is.1.1
+    plain_count false is = no_conflict Seen s _ Writes by is.0.1.1
 
     by_count : (critical : Bool) (slots count : ℕ) → Exchanges (case_by_count critical slots count) M t u word from to (Err s) → critical ≡ true
     by_count true slots count is = refl

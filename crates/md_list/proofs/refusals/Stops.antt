@@ -13,7 +13,7 @@ use Rattle.md_nbtc_law.specs.declared.seen.Seen.{Seen}
 use Rattle.md_nbtc_law.specs.Calls.{AfterStop, Exchanges, Looked, NoteCase, Notes, Refuses, exchange_case, full, note_case, noted, recorded, unread}
 use Rattle.md_nbtc_law.specs.State.{TxnState}
 use Rattle.md_list.specs.Operations.{HasStop, HasStopButNodes}
-use Rattle.md_nbtc_law.proofs.structures.Answering.{after_ok, exchange_refused, look_refused, note_refused}
+use Rattle.md_nbtc_law.proofs.structures.Answering.{IsStopped, after_ok, exchange_refused, look_refused, note_refused}
 use Rattle.md_nbtc_law.proofs.structures.Exchanging.{HasExchanged, changed_own, changed_plainly, exchange_so, installed}
 
 -- a call that was answered found no stop
@@ -44,7 +44,7 @@ module _ (A : Type 0) (s r : Stop) where
   err_ok : (x : A) → (let e : Result A Stop = Err s in e) ≡ Ok x → ⊥
   err_ok x e = cc e
 
-no_conflict : (s : Stop) (shown : Shown) → s ≡ Conflict shown → s ≢ Limited Nodes
+pub no_conflict : (s : Stop) (shown : Shown) → s ≡ Conflict shown → s ≢ Limited Nodes
 no_conflict s shown is same = cc (is, same)
 
 no_reads : (s : Stop) → s ≡ Limited Reads → s ≢ Limited Nodes
@@ -55,6 +55,10 @@ no_writes s is same = cc (is, same)
 
 no_worn : (s : Stop) (word count : ℕ) → s ≡ Limited (Worn word count) → s ≢ Limited Nodes
 no_worn s word count is same = cc (is, same)
+
+-- a transaction that was given up has the stop, and is otherwise as it was
+pub given_up : (t u : TxnState) (s : Stop) → u ≡ record t { stop = Some s } → IsStopped t u s
+given_up t u s kept = kept ∙ ap (λ p. record t { pass = p; stop = Some s }) (sym (ap (λ (x : TxnState). x.pass) kept))
 
 module _ (M : Meaning) (t u : TxnState) (s : Stop) where
   -- a look isn't stopped for want of nodes
@@ -83,7 +87,7 @@ module _ (M : Meaning) (t u : TxnState) (s : Stop) where
       (λ held is. no_conflict s _ (refuses _ is)) (λ is. no_writes s (refuses _ is)) (λ is. no_worn s _ _ (refuses _ is)) t word from kind
       (λ written is. absurd (err_ok Seen s s _ is.0))
       (λ unwritten critical is. no_conflict s _ is.1.1)
-      (λ unwritten plain is. no_conflict s _ is.1.1)
+      (λ unwritten plain is. no_conflict s _ is.0.1.1)
 
 -- a call's refusal, if no stop stood before
 module _ (A : Type 0) (t u : TxnState) where

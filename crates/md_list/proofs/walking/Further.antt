@@ -62,6 +62,7 @@ use Rattle.md_list.proofs.walking.Counting.{few_below}
 use Rattle.md_list.proofs.walking.Marks.{node_kept}
 use Rattle.md_list.proofs.walking.MarkedNext.{facts_hold, is_unlink, mark_after, unlink, unlink_charged, unlink_tidies}
 use Rattle.md_list.proofs.walking.OnNode.{not_visited, stands_on}
+use Rattle.md_list.proofs.walking.Returning.{ReturnsBy}
 use Rattle.md_list.proofs.walking.Rising.{next_names}
 
 -- two values that name the same node
@@ -186,10 +187,11 @@ module _ (M : Meaning) (lawful : Lawful M) (lists : HasListsOf M) (t : TxnState)
       why_charged why = one_charged t u goes.later (all_changes cs ++ changes_of_tidy stands.walking.changes) (unlink M lawful lists t head key visited prev at next on marked)
           (unlink_charged M lawful lists t head key visited prev at next on marked why)
 
-    -- whichever case of the exchange applied; it was asked to be a part of the transaction if the mark is own
-    pub unlinked : at.count < 2 ^ 32 → (kind : Kind) → ((next.own ≡ true) ⊎ (kind ≡ Plain)) → (u : TxnState) (seen : Seen) → GoesOn M t u → Gave u prev seen
+    -- whichever case of the exchange applied, if the word has the new value then; it was asked to be a part of the
+    -- transaction if the mark is own
+    pub unlinked : at.count < 2 ^ 32 → (kind : Kind) → ((next.own ≡ true) ⊎ (kind ≡ Plain)) → (u : TxnState) (seen : Seen) → GoesOn M t u → Gave u prev seen → seen.value ≡ next.value - 1
         → HasExchanged M t prev at (next.value - 1) kind u seen → IsAtBy M u cs head key (node ∷ visited) prev seen
-    unlinked fits kind why u seen goes gave (changed_own e) =
+    unlinked fits kind why u seen goes gave value (changed_own e) =
         let hand = with_change t.hand prev at.value (next.value - 1) in
         let slots = map (with_new prev (next.value - 1)) t.slots in
         let goes_on = subst (GoesOn M t) e.state_is goes in
@@ -200,8 +202,8 @@ module _ (M : Meaning) (lawful : Lawful M) (lists : HasListsOf M) (t : TxnState)
         (one_more u.pass hand slots goes_on stands.walking.operates)
         (more_charged u.pass hand slots goes_on stands.walking.operates (was_changed (changed_before M t cs stands.walking.going stands.walking.changes stands.walking.tidied prev e.written)))
         seen (subst (λ x. Gave x prev seen) e.state_is gave)
-        (λ other. absurd (true≢false (ap (λ (s : Seen). s.own) (sym e.seen_is) ∙ other))) (ap (λ (s : Seen). s.value) e.seen_is))
-    unlinked fits kind why u seen goes gave (installed e) =
+        (λ other. absurd (true≢false (ap (λ (s : Seen). s.own) (sym e.seen_is) ∙ other))) value)
+    unlinked fits kind why u seen goes gave value (installed e) =
         let hand = with_change t.hand prev at.value (next.value - 1) in
         let slot = new_slot t prev at (next.value - 1) in
         let slots = t.slots ++ slot ∷ [] in
@@ -217,8 +219,8 @@ module _ (M : Meaning) (lawful : Lawful M) (lists : HasListsOf M) (t : TxnState)
         (more_charged u.pass hand slots goes_on stands.walking.operates (why_charged u.pass hand slots goes_on stands.walking.operates
         (⊎_elim inl (λ plain. inr (ap (is_critical t prev) (sym plain) ∙ e.critical)) why)))
         seen (subst (λ x. Gave x prev seen) e.state_is gave)
-        (λ other. absurd (true≢false (ap (λ (s : Seen). s.own) (sym e.seen_is) ∙ other))) (ap (λ (s : Seen). s.value) e.seen_is))
-    unlinked fits kind why u seen goes gave (changed_plainly e) =
+        (λ other. absurd (true≢false (ap (λ (s : Seen). s.own) (sym e.seen_is) ∙ other))) value)
+    unlinked fits kind why u seen goes gave value (changed_plainly e) =
         let goes_on = subst (GoesOn M t) e.state_is goes in
         subst (λ x. IsAtBy M x cs head key (node ∷ visited) prev seen) (sym e.state_is)
         (stands_unlinked u.pass t.hand t.slots goes_on stands.walking.operates stands.walking.changes
@@ -226,7 +228,7 @@ module _ (M : Meaning) (lawful : Lawful M) (lists : HasListsOf M) (t : TxnState)
         (still_charged u.pass t.hand t.slots goes_on stands.walking.operates) seen
         (subst (λ x. Gave x prev seen) e.state_is gave)
         (looked_there M t u.pass prev seen (subst (λ x. Looks M t x prev seen) e.state_is e.looks) (prev_place M lawful lists t cs stands.walking.going stands.walking.map stands.walking.bucket head key prev stands.walking.is_head stands.before))
-        (ap (λ (s : Seen). s.value) e.seen_is))
+        value)
 
   -- after the node's key was read the walk stands at its next word, or has found the place
   module _ (some : linked_node at.value ≢ 0) (unmarked : is_marked next.value ≡ false) (p : PassState) (goes : GoesOn M t (stepped t p))
@@ -261,6 +263,28 @@ module _ (M : Meaning) (lawful : Lawful M) (lists : HasListsOf M) (t : TxnState)
         exist = all_exist;
         differ = all_differ some;
         named = known_later M (λ v h. NamesPast (after_wholes h cs) list (node ∷ visited) next.value) t (stepped t p) goes.later named_next;
+      },
+      refl,
+    )
+
+    -- and if another pass changes that word, it can go on from what is seen there then
+    pub walks_back : k < key → ReturnsBy M (stepped t p) cs head key (node ∷ visited) next_at
+    walks_back less = (
+      record {
+        walking = walking_on M lawful lists t p head goes stands.walking;
+        before = inr (node, k, on.exists, key_known, less, refl);
+        behind = inr (node, here node visited, refl);
+        exist = all_exist;
+        differ = all_differ some;
+        from = inr (record {
+          node = node;
+          earlier = visited;
+          base_is = refl;
+          word_is = refl;
+          exists = on.exists;
+          placed = known_later M (λ v h. IsIn (after_wholes h cs) list node) t (stepped t p) goes.later on.placed;
+          past = known_later M (λ v h. AreBefore (after_wholes h cs) list visited node) t (stepped t p) goes.later on.past;
+        });
       },
       refl,
     )

@@ -1,5 +1,5 @@
 -- What a walk has after each of its calls.
-use Rattle.std.proofs.Common.{◌≡◌, ◌≢◌, ◌<◌, ◌^◌, ◌-◌, ◌/◌, ◌∷◌, ◌⊎◌, ℕ, true, List, [], Result, Ok, refl, sym, ap, ◌∙◌, subst, inl, inr, ⊎_elim}
+use Rattle.std.proofs.Common.{◌≡◌, ◌≢◌, ◌<◌, ◌^◌, ◌-◌, ◌/◌, ◌∷◌, ◌⊎◌, ℕ, true, false, List, [], Result, Ok, refl, sym, ap, ◌∙◌, subst, inl, inr, ⊎_elim}
 use Rattle.std.proofs.lemmas.List.Elements.{All-contains}
 use Rattle.md_words.specs.declared.shape.Shape.{Shape}
 use Rattle.md_words.specs.Layout.{IsNode, address, words_of}
@@ -28,6 +28,8 @@ use Rattle.md_list.proofs.walking.At.{IsAt, IsAtBy, stepped}
 use Rattle.md_list.proofs.walking.Further.{unlinked}
 use Rattle.md_list.proofs.walking.Marks.{halved}
 use Rattle.md_list.proofs.walking.OnNode.{IsOn, IsOnBy, begins, looks_on}
+use Rattle.md_list.proofs.walking.Returning.{ReturnsBy, returned, returns_on}
+use Rattle.md_machine.specs.declared.certificate.Certificate.{Certificate}
 use Rattle.md_list.proofs.changes.Staying.{slots_changed, slots_same}
 use Rattle.md_list.proofs.walking.Walked.{WalkedFrom, walked_more}
 
@@ -93,8 +95,26 @@ module _ (M : Meaning) (lawful : Lawful M) (lists : HasListsOf M) (t u : TxnStat
         (subst (λ w. KeepsGiven t (stepped t u.pass) w) is_next (subst (λ x. KeepsGiven t x word) is.0 given)))
 
     pub unlinked_ok : (next : Seen) → (on : IsOn M t head key visited prev at next) → is_marked next.value ≡ true → at.count < 2 ^ 32 → (kind : Kind) → ((next.own ≡ true) ⊎ (kind ≡ Plain)) → (seen : Seen)
-        → Gave u prev seen → HasExchanged M t prev at (next.value - 1) kind u seen → IsAtBy M u on.stands.walking.certificates head key (linked_node at.value ∷ visited) prev seen
-    unlinked_ok next on marked fits kind why seen gave ex = unlinked M lawful lists t head key visited prev at next on some marked fits kind why u seen goes gave ex
+        → Gave u prev seen → seen.value ≡ next.value - 1 → HasExchanged M t prev at (next.value - 1) kind u seen → IsAtBy M u on.stands.walking.certificates head key (linked_node at.value ∷ visited) prev seen
+    unlinked_ok next on marked fits kind why seen gave value ex = unlinked M lawful lists t head key visited prev at next on some marked fits kind why u seen goes gave value ex
+
+-- a walk can go on from where it stands at the head
+pub head_returns : (M : Meaning) (u : TxnState) (head key : ℕ) (cs : List Certificate) (seen : Seen) → IsAtBy M u cs head key [] head seen → ReturnsBy M u cs head key [] head
+head_returns M u head key cs seen a = (
+  record { walking = a.0.walking; before = a.0.before; behind = a.0.behind; exist = a.0.exist; differ = a.0.differ; from = inl (refl, refl) },
+  a.1,
+)
+
+-- it still can after steps of the pass, and goes on from what is seen in the word
+module _ (M : Meaning) (lawful : Lawful M) (lists : HasListsOf M) (t u : TxnState) (head key : ℕ) (goes : GoesOn M t u) (same : u ≡ record t { pass = u.pass })
+    (cs : List Certificate) (base : List ℕ) (prev : ℕ) (r : ReturnsBy M t cs head key base prev) where
+  pub returns_same : ReturnsBy M u cs head key base prev
+  returns_same = subst (λ x. ReturnsBy M x cs head key base prev) (sym same) (returns_on M lawful lists t u.pass head key base prev (subst (GoesOn M t) same goes) r.0, r.1)
+
+  pub looked_back : (seen : Seen) → Looks M t u prev seen → is_marked seen.value ≡ false → IsAtBy M u cs head key base prev seen
+  looked_back seen looks unmarked =
+      let a = returned M lawful lists t u.pass head key base prev (subst (GoesOn M t) same goes) r.0 seen (subst (λ x. Looks M t x prev seen) same looks) unmarked in
+      subst (λ x. IsAtBy M x cs head key base prev seen) (sym same) (a.0, a.1 ∙ r.1)
 
 -- the key of a node that a walk stands on may be read
 pub key_data : (M : Meaning) (lawful : Lawful M) (lists : HasListsOf M) (t : TxnState) (head key : ℕ) (visited : List ℕ) (prev : ℕ) (at next : Seen)

@@ -1,6 +1,8 @@
 -- A lost exchange shows that its word moved: the transaction keeps a conflict.
-use Rattle.std.proofs.Common.{◌≡◌, ◌≢◌, ◌⊎◌, ◌++◌, ◌∷◌, ℕ, true, false, List, [], Option, Some, refl, sym, ap, ◌∙◌, subst, inl, inr, ⊎_elim, append_assoc}
-use Rattle.std.proofs.lemmas.List.Elements.{Contains-push}
+use Rattle.std.proofs.Common.{◌≡◌, ◌≢◌, ◌<◌, ◌⊎◌, ◌++◌, ◌∷◌, ℕ, true, false, List, [], Option, Some, refl, sym, ap, ◌∙◌, subst, inl, inr, ⊎_elim, append_assoc}
+use Rattle.std.proofs.lemmas.List.Elements.{All-cons, All-nil, Contains-push}
+use Rattle.std.specs.List.{Contains}
+use Rattle.md_words.specs.Content.{count_of, is_even}
 use Rattle.md_words.specs.PlaceAt.{IsCounted}
 use Rattle.md_history.specs.declared.stops.Shown.{Shown}
 use Rattle.md_history.specs.declared.stops.Stop.TheVariants.{Conflict}
@@ -16,6 +18,7 @@ use Rattle.md_machine.specs.clauses.passes.Alone.{HoldsAll}
 use Rattle.md_help.specs.After.{StandsInField}
 use Rattle.md_nbtc_law.specs.declared.seen.Seen.{Seen}
 use Rattle.md_nbtc_law.specs.Calls.{GoesOn}
+use Rattle.md_nbtc_law.specs.Looking.{WasOvertaken}
 use Rattle.md_nbtc_law.specs.Prepared.{IsPrepared, LeftThere}
 use Rattle.md_nbtc_law.specs.Seeing.{Gave}
 use Rattle.md_nbtc_law.specs.State.{TxnState, attempt_in, own_steps, seen_content, shape_in, state_of, writes_in}
@@ -34,6 +37,7 @@ use Rattle.md_nbtc_law.proofs.keeping.Causes.{conflict_cause}
 use Rattle.md_nbtc_law.proofs.exchanging.SameSlots.{LeavesSets, once_gave, once_on, once_prepared, stepped_once}
 use Rattle.md_nbtc_law.proofs.looks.AloneChain.{ChainsFrom, chained}
 use Rattle.md_nbtc_law.proofs.looks.Causes.{left_finds, own_rest}
+use Rattle.md_nbtc_law.proofs.preparing.Quiet.{left_same}
 use Rattle.md_nbtc_law.proofs.preparing.StatusApart.{counted_apart}
 
 -- the kinds of steps that exchange a word
@@ -114,16 +118,39 @@ module _ (M : Meaning) (t : TxnState) (prepared : IsPrepared t) (operates : t.ha
       differ (sym it.found ∙ left_finds (attempt_in t).desc word (seen_content from) t.began.view.trail (own_steps t) s
       (subst (ChainsFrom []) trail (chained M t.field.origin at.machine at.admitted at.pass stepped.pass.view at.acts all)) left it.there still)
 
+  -- the transaction goes on over the step, and what was given stays so
+  pub stepped_on : GoesOn M t stepped
+  stepped_on = once_on t prepared operates it.base it.step it.goes leaves M (subst (StandsInField M t.field.origin) it.view it.stands)
+
+  pub stepped_given : (other : ℕ) (seen : Seen) → Gave t other seen → Gave stepped other seen
+  stepped_given other seen g = once_gave t prepared operates it.base it.step it.goes leaves other seen (λ _. still) g
+
+  -- the step shows that the word was changed meanwhile
+  pub overtaken : is_even (count_of (seen_content from)) ≡ true → count_of (seen_content from) < count_of found → WasOvertaken stepped word (seen_content from)
+  overtaken even higher = record {
+    even = even;
+    left = subst (LeftThere (attempt_in t).desc word (seen_content from)) (sym own_then_is) (left_same (attempt_in t).desc word (seen_content from) (own_steps t) (s ∷ [])
+        (All-cons (λ (x : Step). x.word ≡ word → x.before ≡ x.after) s [] (λ _. still) (All-nil _)) left);
+    concerns = moved.concerns;
+    held = found;
+    higher = higher;
+    met = (
+      s,
+      subst (λ l. Contains l s) (sym (trail_is t it.base it.step it.goes t.hand.changes t.pass.shares t.slots)) (Contains-push t.pass.view.trail s),
+      inl (record { there = it.there; before = it.found; found = finds_none }),
+    );
+  }
+
   -- the transaction with the conflict
   abbrev pub lost : TxnState
   lost = record stepped { stop = Some (Conflict shown) }
 
   pub lost_on : GoesOn M t lost
-  lost_on = both_on M t stepped lost (once_on t prepared operates it.base it.step it.goes leaves M (subst (StandsInField M t.field.origin) it.view it.stands))
+  lost_on = both_on M t stepped lost stepped_on
       (halted_on M stepped stepped_prepared (Conflict shown) (conflict_cause stepped shown moved not_alone))
 
   pub lost_given : (other : ℕ) (seen : Seen) → Gave t other seen → Gave lost other seen
-  lost_given other seen g = halted_gave stepped (Conflict shown) other seen (once_gave t prepared operates it.base it.step it.goes leaves other seen (λ _. still) g)
+  lost_given other seen g = halted_gave stepped (Conflict shown) other seen (stepped_given other seen g)
 
 -- what contracts see of the transaction then
 module _ (M : Meaning) (field : FieldView) (p : PassState) (began : PassState) (reads : List Read) (slots : List Slot) (stop : Option Stop) (desc serial tag : ℕ) (lots : List Lot) where
@@ -133,8 +160,10 @@ module _ (M : Meaning) (field : FieldView) (p : PassState) (began : PassState) (
   module _ (prepared : IsPrepared t) (operates : t.hand.operating ≡ true) (word : ℕ) (counted : IsCounted (shape_in t) word) (from : Seen)
       (none : is_written (writes_in t) word ≡ false) (gave : Gave t word from) (k : Kind) (exchanges : IsExchange k) (found : ℕ) (differ : found ≢ seen_content from)
       (pass : PassState) (same : pass ≡ record p { view = pass.view }) (it : StepsOnce M t prepared k word found found t.hand.changes pass.view) where
+    pub stepped_so : state_of field pass began reads slots stop desc serial tag lots ≡ stepped M t prepared operates word counted from none gave k exchanges found differ pass.view it
+    stepped_so = view_so field p began reads slots stop desc serial tag lots it.base it.step it.goes t.hand.changes p.shares slots (λ lane. refl)
+        (λ n c r of stores e. absurd (true≢false (sym stores ∙ ⊎_elim (λ i. ap is_store (it.kind ∙ i)) (λ x. ap is_store (it.kind ∙ x)) exchanges))) pass same it.view refl
+
     pub lost_so : state_of field pass began reads slots (Some (Conflict (record { word = word; was = seen_content from; now = found }))) desc serial tag lots
         ≡ lost M t prepared operates word counted from none gave k exchanges found differ pass.view it
-    lost_so = ap (λ (u : TxnState). record u { stop = Some (Conflict (record { word = word; was = seen_content from; now = found })) })
-        (view_so field p began reads slots stop desc serial tag lots it.base it.step it.goes t.hand.changes p.shares slots (λ lane. refl)
-        (λ n c r of stores e. absurd (true≢false (sym stores ∙ ⊎_elim (λ i. ap is_store (it.kind ∙ i)) (λ x. ap is_store (it.kind ∙ x)) exchanges))) pass same it.view refl)
+    lost_so = ap (λ (u : TxnState). record u { stop = Some (Conflict (record { word = word; was = seen_content from; now = found })) }) stepped_so

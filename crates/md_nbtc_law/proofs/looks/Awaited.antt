@@ -1,5 +1,5 @@
 -- What a look tells that may have waited for another's descriptor, and then cleared it.
-use Rattle.std.proofs.Common.{◌≡◌, ◌≢◌, ◌++◌, ◌∷◌, ◌+◌, ℕ, Bool, not, true, false, List, [], Option, Some, None, is_some, sym, ap, ◌∙◌, subst, append_assoc}
+use Rattle.std.proofs.Common.{◌≡◌, ◌≢◌, ◌++◌, ◌∷◌, ◌+◌, ℕ, Bool, not, true, false, List, [], Option, Some, None, Result, Ok, Err, is_some, sym, ap, ◌∙◌, subst, append_assoc}
 use Rattle.std.proofs.lemmas.Bool.{cond_both, true≢false}
 use Rattle.std.proofs.lemmas.List.Elements.{All-weaker, Contains-append_right}
 use Rattle.std.specs.List.{All}
@@ -29,7 +29,7 @@ use Rattle.md_nbtc_law.specs.declared.seen.Seen.{Seen}
 use Rattle.md_nbtc_law.specs.declared.slots.Lot.{Lot}
 use Rattle.md_nbtc_law.specs.declared.seen.TheConstants.{LOOKS}
 use Rattle.md_nbtc_law.specs.declared.slots.Slot.{Slot}
-use Rattle.md_nbtc_law.specs.Calls.{GoesOn}
+use Rattle.md_nbtc_law.specs.Calls.{GoesOn, Looked}
 use Rattle.md_nbtc_law.specs.Going.{HasCause, IsGoing, IsUnderWay}
 use Rattle.md_nbtc_law.specs.Known.{IsLater}
 use Rattle.md_nbtc_law.specs.Looking.{LooksAt, LooksUntil}
@@ -69,7 +69,7 @@ seen_is word c seen parts is = ap (λ (x : Content). seen_in x) (sym parts) ∙ 
     seen_in x = record { value = x.value; count = x.count; own = false }
 
 -- a transaction that goes on twice
-goes_both : (M : Meaning) (t u v : TxnState) → GoesOn M t u → GoesOn M u v → GoesOn M t v
+pub goes_both : (M : Meaning) (t u v : TxnState) → GoesOn M t u → GoesOn M u v → GoesOn M t v
 goes_both M t u v a b = record { going = λ cs g. b.going cs (a.going cs g); later = later_over t u v a.later b.later }
 
 -- what a look gave of a transaction after some steps, it gave of the transaction before them
@@ -84,10 +84,16 @@ looks_since M t u pass word seen later l = record {
   found = λ own place. l.found own (λ node is. let p = place node is in (p.0, known_later M (λ v h. h.placed node ≡ Some p.0) t (record t { pass = pass }) later p.1));
 }
 
+-- so a look that follows steps of the pass is one of the transaction before them
+pub looked_since : (M : Meaning) (t u : TxnState) (pass : PassState) (word : ℕ) (result : Result Seen Stop) → IsLater t (record t { pass = pass })
+    → Looked M (record t { pass = pass }) u word result → Looked M t u word result
+looked_since M t u pass word (Ok seen) later l = (l.0, looks_since M t u pass word seen later l.1)
+looked_since M t u pass word (Err s) later l = l
+
 module _ (M : Meaning) (lawful : Lawful M) (t : TxnState) (way : IsUnderWay M t) (q : PassView) (word found : ℕ) (l : LooksUntil M t.field.origin word (LOOKS + 1) found t.pass.view q)
     (counted : IsCounted (shape_in t) word) (none : is_written (writes_in t) word ≡ false) where
   -- the transaction before the last look
-  abbrev waits : TxnState
+  abbrev pub waits : TxnState
   waits = record t { pass = record t.pass { view = l.last } }
 
   -- the looks before it are calm, so the transaction goes on over them
@@ -97,7 +103,7 @@ module _ (M : Meaning) (lawful : Lawful M) (t : TxnState) (way : IsUnderWay M t)
   waits_on : GoesOn M t waits
   waits_on = over_on M t way l.last l.earlier.steps l.earlier.goes l.stands word (unwritten t way.1.prepared word none) looks_calm
 
-  going : IsGoing M waits way.0
+  pub going : IsGoing M waits way.0
   going = waits_on.going way.0 way.1
 
   -- the transaction after the looks goes on, and what was given of other words stays so

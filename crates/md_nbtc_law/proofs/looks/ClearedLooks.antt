@@ -214,19 +214,18 @@ module _ (M : Meaning) (lawful : Lawful M) (t : TxnState) (cs : List Certificate
         (moved_to found found_left (λ e. left_apart (sym e)) (inl (found_odd left_odd).0))
         (λ all. left_apart (alone_found left_odd all))
 
-    -- an even content is left: of one that was recorded of the word, it is that one still, or it moved
-    recorded_now : is_even (count_of c.left) ≡ true → (r : Read) → Contains t.reads r → r.word ≡ word → (r.content ≡ c.left)
-        ⊎ (Moved (shape_in t) (attempt_in t) (own_steps cleared) (record { word = word; was = r.content; now = c.left }) × (¬ HoldsAll (shape_in t) cleared.pass.view))
-    recorded_now even read among there =
-        let before = recorded_left t prepared word none read among there in
-        let now = recorded_left looked looked_going.prepared word none read among there in
-        let was_even = before.0 in
-        let differ : read.content ≢ found = λ e. true≢false (sym was_even ∙ ap (λ x. is_even (count_of x)) e ∙ odd) in
+    -- an even content that own steps had left there before, if it isn't what is left now, moved to that
+    moved_now : (was : ℕ) → is_even (count_of was) ≡ true → LeftThere (attempt_in t).desc word was (own_steps t) → was ≢ c.left
+        → Moved (shape_in t) (attempt_in t) (own_steps cleared) (record { word = word; was = was; now = c.left }) × (¬ HoldsAll (shape_in t) cleared.pass.view)
+    moved_now was was_even before apart =
+        let Same : Step → Type 0 = λ s. s.word ≡ word → s.before ≡ s.after in
+        let m = made M t prepared q word found step in
+        let now : LeftThere (attempt_in t).desc word was (own_steps looked) = subst (LeftThere (attempt_in t).desc word was) (sym own_now)
+        (left_same (attempt_in t).desc word was (own_steps t) (the ∷ []) (All-cons Same the [] (λ _. m.found ∙ sym m.left_it) (All-nil Same)) before) in
+        let differ : was ≢ found = λ e. true≢false (sym was_even ∙ ap (λ x. is_even (count_of x)) e ∙ odd) in
         let concerns = subst (λ l. Concerns (shape_in t) (attempt_in t) l word) own_now met_other in
-        let live = (moved_so M t prepared q word found step read.content differ before.1 concerns).1 in
-        ⊎_elim inl
-        (λ apart. inr (
-          moved_to read.content now.1 apart (⊎_elim (λ f. inl f.0) (λ k. inr (
+        let live = (moved_so M t prepared q word found step was differ before concerns).1 in (
+          moved_to was now apart (⊎_elim (λ f. inl f.0) (λ k. inr (
             leaves,
             record {
               kind = k.0;
@@ -235,8 +234,21 @@ module _ (M : Meaning) (lawful : Lawful M) (t : TxnState) (cs : List Certificate
             },
           )) by.at.ends),
           λ all. live (λ lane below. subst (λ l. Contains l lane) lanes_same (all lane below)),
-        ))
-        (cases_eq read.content c.left)
+        )
+
+    -- so a conflict would have its cause
+    pub left_overtaken : (was : ℕ) → is_even (count_of was) ≡ true → LeftThere (attempt_in t).desc word was (own_steps t) → was ≢ c.left
+        → HasCause cleared (Conflict (record { word = word; was = was; now = c.left }))
+    left_overtaken was even before apart =
+        let m = moved_now was even before apart in
+        conflict_cause cleared (record { word = word; was = was; now = c.left }) m.0 m.1
+
+    -- an even content is left: of one that was recorded of the word, it is that one still, or it moved
+    recorded_now : is_even (count_of c.left) ≡ true → (r : Read) → Contains t.reads r → r.word ≡ word → (r.content ≡ c.left)
+        ⊎ (Moved (shape_in t) (attempt_in t) (own_steps cleared) (record { word = word; was = r.content; now = c.left }) × (¬ HoldsAll (shape_in t) cleared.pass.view))
+    recorded_now even read among there =
+        let before = recorded_left t prepared word none read among there in
+        ⊎_elim inl (λ apart. inr (moved_now read.content before.0 before.1 apart)) (cases_eq read.content c.left)
 
     -- what is seen of an even content that is left, which own steps left there
     abbrev pub left_seen : Seen

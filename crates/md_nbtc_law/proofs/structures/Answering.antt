@@ -54,7 +54,7 @@ module _ (M : Meaning) (t u : TxnState) (s : Stop) where
       (λ held is. refusing _ is) (λ is. refusing _ is) (λ is. refusing _ is) t word from kind
       (λ written is. ok_is_err _ is.0)
       (λ unwritten critical is. refusing _ is.0)
-      (λ unwritten plain is. refusing _ is.0))
+      (λ unwritten plain is. is.0.0.1))
 
   -- of a note
   err_unit : {B : Type 0} → (let r : Result (Unit {0}) Stop = Err s in r) ≡ Ok tt → B

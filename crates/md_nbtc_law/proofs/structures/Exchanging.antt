@@ -1,6 +1,6 @@
 -- The cases of an exchange, as a caller meets them: the word is own, or the change is a part of the transaction, or plain.
-use Rattle.std.proofs.Common.{◌≡◌, ◌==◌, ◌+◌, ◌++◌, ◌∷◌, [], ℕ, Bool, true, false, Option, Some, None, Result, Ok, Err, refl, length, map}
-use Rattle.std.proofs.lemmas.Bool.{cond_both}
+use Rattle.std.proofs.Common.{◌≡◌, ◌==◌, ◌+◌, ◌++◌, ◌∷◌, [], ℕ, Bool, true, false, Option, Some, None, Result, Ok, Err, refl, sym, ap, ◌∙◌, ◌≢◌, ⊎_elim, length, map}
+use Rattle.std.proofs.lemmas.Bool.{cond_both, true≢false}
 use Rattle.md_words.specs.declared.limits.TheConstants.{SET}
 use Rattle.md_history.specs.declared.stops.Stop.{Stop}
 use Rattle.md_machine.specs.Certified.{content_read, is_written}
@@ -8,11 +8,11 @@ use Rattle.md_machine.specs.Meaning.{Meaning}
 use Rattle.std.specs.Prelude.{nat_le, if◌then◌else◌}
 use Rattle.md_nbtc_law.specs.declared.seen.Kind.{Kind}
 use Rattle.md_nbtc_law.specs.declared.seen.Seen.{Seen}
-use Rattle.md_nbtc_law.specs.Calls.{ExchangeCase, Exchanges, MayBeOf, case_by_count, case_unless_moved, changes, exchange_case, installs, is_critical, moved, new_slot, no_slot, own, with_change, worn}
+use Rattle.md_nbtc_law.specs.Calls.{ChangedOrLost, ExchangeCase, IsOvertaken, Exchanges, MayBeOf, case_by_count, case_unless_moved, changes, exchange_case, installs, is_critical, moved, new_slot, no_slot, own, with_change, worn}
 use Rattle.md_nbtc_law.specs.declared.seen.TheConstants.{WORN}
 use Rattle.md_nbtc_law.specs.Cleaning.{CleanupsStay}
 use Rattle.md_nbtc_law.specs.Going.{IsFoundFirst}
-use Rattle.md_nbtc_law.specs.Seeing.{IsTidyNow, Looks, MayChange}
+use Rattle.md_nbtc_law.specs.Seeing.{Gave, IsTidyNow, Looks, MayChange}
 use Rattle.md_nbtc_law.specs.Sets.{with_new}
 use Rattle.md_nbtc_law.specs.State.{TxnState, seen_content, writes_in}
 
@@ -60,17 +60,34 @@ module _ (M : Meaning) (t : TxnState) (word : ℕ) (from : Seen) (to : ℕ) (kin
     pub seen_is : seen ≡ record { value = to; count = from.count + 1; own = true }
     pub state_is : u ≡ record t { pass = u.pass; hand = with_change t.hand word from.value to; slots = t.slots ++ new_slot t word from to ∷ [] }
 
+  -- what a plain one did, whether it was won or lost
   pub record ChangedPlainly (u : TxnState) (seen : Seen) : Type 0 where
     pub unwritten : is_written (writes_in t) word ≡ false
     pub plain : is_critical t word kind ≡ false
-    pub seen_is : seen ≡ record { value = to; count = from.count + 2; own = false }
     pub state_is : u ≡ record t { pass = u.pass }
     pub looks : Looks M t u word seen
+    pub by : ChangedOrLost u word from to seen
+
+  -- it saw an even content, so no own word
+  pub plain_unowned : (u : TxnState) (seen : Seen) → ChangedPlainly u seen → seen.own ≡ false
+  plain_unowned u seen e = e.looks.gave.own ∙ ap (λ (x : TxnState). is_written (writes_in x) word) e.state_is ∙ e.unwritten
 
   pub data HasExchanged (u : TxnState) (seen : Seen) : Type 0 where
     changed_own : ChangedOwn u seen → HasExchanged u seen
     installed : Installed u seen → HasExchanged u seen
     changed_plainly : ChangedPlainly u seen → HasExchanged u seen
+
+  -- one that left another value than was asked for was a plain one, and lost
+  pub lost_so : (u : TxnState) (seen : Seen) → seen.value ≢ to → HasExchanged u seen → ChangedPlainly u seen × IsOvertaken u word from seen
+  lost_so u seen other (changed_own e) = absurd (other (ap (λ (s : Seen). s.value) e.seen_is))
+  lost_so u seen other (installed e) = absurd (other (ap (λ (s : Seen). s.value) e.seen_is))
+  lost_so u seen other (changed_plainly e) = (e, ⊎_elim (λ made. absurd (other (ap (λ (s : Seen). s.value) made))) (λ lost. lost) e.by)
+
+  -- a word that isn't an own one after it was changed plainly
+  pub still_other : (u : TxnState) (seen : Seen) → Gave u word seen → is_written (writes_in u) word ≡ false → HasExchanged u seen → ChangedPlainly u seen
+  still_other u seen gave other (changed_own e) = absurd (true≢false (ap (λ (s : Seen). s.own) (sym e.seen_is) ∙ gave.own ∙ other))
+  still_other u seen gave other (installed e) = absurd (true≢false (ap (λ (s : Seen). s.own) (sym e.seen_is) ∙ gave.own ∙ other))
+  still_other u seen gave other (changed_plainly e) = e
 
   not_ok : {A : Type 0} (s : Stop) (seen : A) → (let r : Result A Stop = Ok seen in r) ≡ Err s → ⊥
   not_ok s seen e = cc e
@@ -80,7 +97,7 @@ module _ (M : Meaning) (t : TxnState) (word : ℕ) (from : Seen) (to : ℕ) (kin
       (λ held e. absurd (not_ok _ seen e.0)) (λ e. absurd (not_ok _ seen e.0)) (λ e. absurd (not_ok _ seen e.0)) t word from kind
       (λ written e. changed_own (record { written = written; seen_is = ok_same e.0; state_is = e.1 }))
       (λ unwritten critical e. installed (record { unwritten = unwritten; critical = critical; seen_is = e.0; state_is = e.1 }))
-      (λ unwritten plain e. changed_plainly (record { unwritten = unwritten; plain = plain; seen_is = e.0; state_is = e.1; looks = e.2 }))
+      (λ unwritten plain e. changed_plainly (record { unwritten = unwritten; plain = plain; state_is = e.0.0; looks = e.0.1; by = e.1 }))
     where
       ok_same : {x y : Seen} → (let r : Result Seen Stop = Ok x in r) ≡ Ok y → x ≡ y
       ok_same e = cc e

@@ -33,7 +33,7 @@ fn renew(field: &Field<CellTheory>, pass: &mut Pass<CellTheory>, from: Content) 
 }
 
 // Loads the cell and changes it to the value that it has, so many times: how many changes won.
-fn churn(field: &Field<CellTheory>, pass: &mut Pass<CellTheory>, turns: u32) -> u32
+pub(super) fn churn(field: &Field<CellTheory>, pass: &mut Pass<CellTheory>, turns: u32) -> u32
     requires { IsOf pass.old field.now }
     ensures pass { IsOf pass.new field.now }
     ensures few { result ≤ turns }

@@ -5,6 +5,7 @@ ghost use Rattle.md_rule.specs.Views.{IsOf};
 ghost use Rattle.md_nbtc.specs.State.{state};
 ghost use Rattle.md_rule_tests.specs.Tested.{IsOpen};
 
+use super::passes::churn;
 use super::{blank, part_of, same};
 use example_cell::CellTheory;
 use md_history::{Limit, Shown, Stop};
@@ -197,6 +198,25 @@ fn change(
     let word = field.shape().map_head(0, bucket);
     let seen = txn.load(word)?;
     txn.exchange(word, seen, to, Kind::Critical)
+}
+
+// Looks at the cell, which another pass then changes twice, each time to the value that it has, and
+// changes it so too, at once.
+fn renew_late(
+    txn: &mut Txn<'_, CellTheory>,
+    field: &Field<CellTheory>,
+    other: &mut Pass<CellTheory>,
+) -> Result<Seen, Stop>
+    requires open { IsOpen field.now (state txn.old) }
+    requires other { IsOf other.old field.now }
+    ensures pass { txn.new.pass.ghost_name ≡ txn.old.pass.ghost_name }
+    ensures open { IsOpen field.now (state txn.new) }
+    ensures other { IsOf other.new field.now }
+{
+    let word = field.shape().map_head(0, 0);
+    let seen = txn.load(word)?;
+    churn(field, other, 2);
+    txn.exchange(word, seen, seen.value, Kind::Plain)
 }
 
 // Takes a node.
@@ -524,6 +544,18 @@ fn a_recorded_word_that_moved_is_a_conflict(rt: HostRuntime) {
     let mut sets = Sets::new();
     let mut one = begun(&rt, &mut a, &field, 7, &mut sets);
     assert_moved(&rt, &mut one, &mut b, &field);
+    stop(one, &field);
+}
+
+#[test]
+fn a_lost_plain_change_costs_a_look(rt: HostRuntime) {
+    let (field, mut a) = blank(&rt, Shape::new(2, 1, 0, 3, 1, 1, 0));
+    let mut b = part_of(&rt, &field, &mut a);
+    let mut sets = Sets::new();
+    let mut one = begun(&rt, &mut a, &field, 7, &mut sets);
+    let late = gave_head(renew_late(&mut one, &field, &mut b));
+    same(&rt, &late, &plain(0, 4));
+    assert_calls(&rt, &mut one, &field, &[(Call::Change(0, 5), own(5, 5))]);
     stop(one, &field);
 }
 

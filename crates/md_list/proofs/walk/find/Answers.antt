@@ -1,9 +1,11 @@
-use Rattle.std.proofs.Common.{◌≡◌, ◌≢◌, ◌-◌, ◌∷◌, [], refl, sym, ap, ◌∙◌, subst, inl, inr, arith, None, Some, Ok, Err}
+use Rattle.std.proofs.Common.{◌≡◌, ◌≢◌, ◌-◌, false, ◌∷◌, [], refl, sym, ap, ◌∙◌, subst, inl, inr, arith, None, Some, Ok, Err}
 use Rattle.std.proofs.lemmas.Bool.{true≢false}
 use Rattle.md_words.specs.Link.{linked_node}
-use Rattle.md_nbtc_law.specs.State.{shape_in}
+use Rattle.md_nbtc_law.specs.State.{shape_in, writes_in}
 use Rattle.md_nbtc_law.proofs.structures.Answering.{exchange_refused, look_refused}
+use Rattle.md_nbtc_law.proofs.structures.Exchanging.{lost_so, still_other}
 use Rattle.md_nbtc_law.proofs.structures.NodesKnown.{shape_later}
+use Rattle.md_machine.specs.Certified.{is_written}
 use Rattle.md_nbtc.specs.State.{state}
 use Rattle.md_list.proofs.charges.Charged.{charges_more, charges_none, few_after, few_written}
 use Rattle.md_list.proofs.charges.ChargedWalk.{charges_pass, charges_unlink}
@@ -11,9 +13,9 @@ use Rattle.md_list.proofs.walking.Further.{few_visited, finds_none}
 use Rattle.md_list.proofs.walking.Marks.{even_is_unmarked, halved, odd_is_marked}
 use Rattle.md_list.proofs.walking.MarkedNext.{may_unlink}
 use Rattle.md_list.proofs.walking.OnNode.{named_exists}
-use Rattle.md_list.proofs.walking.Steps.{exchanged_ok, head_counted, head_looked, key_data, key_is, looked_ok, next_is, next_looked, node_is, unlinked_ok, walked_exchange, walked_same}
-use Rattle.md_list.proofs.refusals.Stops.{answers_other, exchange_stops, exchanged_stop, look_other, look_stops, none_stands, none_stood, ok_unstopped, passed_on}
-use Rattle.md_list.proofs.refusals.Refused.{exchange_full, exchange_reads, look_unlimited, never_refused, refused_by, refused_else, no_refusal}
+use Rattle.md_list.proofs.walking.Steps.{exchanged_ok, head_counted, head_looked, head_returns, looked_back, returns_same, key_data, key_is, looked_ok, next_is, next_looked, node_is, unlinked_ok, walked_exchange, walked_same}
+use Rattle.md_list.proofs.refusals.Stops.{answers_other, exchange_stops, exchanged_stop, given_up, look_other, look_stops, no_conflict, none_stands, none_stood, ok_unstopped, passed_on}
+use Rattle.md_list.proofs.refusals.Refused.{conflict_unlimited, exchange_full, exchange_reads, look_unlimited, never_refused, refused_by, refused_else, no_refusal}
 use Rattle.md_list.proofs.refusals.Would.{needs_unlink, unlink_of_walk}
 use Rattle.md_list.proofs.walking.Walked.{has_stop, stop_leaves, walk_leaves, walked_one}
 use Rattle.md_list.proofs.charges.Adding.{goes_over, leaves_none}
@@ -27,7 +29,7 @@ use Rattle.md_nbtc_law.specs.Calls.{Exchanges, Looked, exchange_case}
 use Rattle.md_words.specs.PlaceAt.{IsCounted}
 use Rattle.md_machine.proofs.chain.SameNodes.{next_counted}
 use Rattle.md_list_law.specs.ListShape.{next_word}
-use Rattle.md_list.proofs.walking.Keyed.{key_finds, key_walks}
+use Rattle.md_list.proofs.walking.Keyed.{key_finds, key_returns, key_walks}
 use Rattle.md_list.proofs.walk.find.Goals.{then-next, else-next}
 use Rattle.std.proofs.lemmas.Result.{IfOk-from_err}
 use Rattle.md_list.proofs.walk.find.Goals as goal
@@ -49,7 +51,12 @@ loop-init g c =
       visited = [];
       stands = λ w. head_looked M g.T.Theory.lawful g.met.T.HasLists.has_lists t u c.args.head c.args.key c.in_ok-at.ensures.on w c.in_ok-at.at c.in_ok-at.ensures.looked;
       charges = charges_none M t c.args.head u (ap (λ x. x.slots) is.0);
-      turns = refl;
+      base = [];
+      returns = λ _ w. head_returns M u c.args.head c.args.key w.certificates c.in_ok-at.at
+          (head_looked M g.T.Theory.lawful g.met.T.HasLists.has_lists t u c.args.head c.args.key c.in_ok-at.ensures.on w c.in_ok-at.at c.in_ok-at.ensures.looked);
+      back = λ _. charges_none M t c.args.head u (ap (λ x. x.slots) is.0);
+      few = omega arith;
+      turns = omega arith;
       small = omega arith;
     }
 
@@ -97,8 +104,8 @@ exchange-requires-clause-may g c =
 pub returns-in_err-at-2-clause-pass : goal.returns-in_err-at-2-clause-pass
 returns-in_err-at-2-clause-pass g c = c.in_err-at-2.ensures.pass ∙ c.load-in-loop.ensures.pass ∙ c.loop.invariant.pass
 
-pub loop-preserved-then-next-eq1 : goal.loop-preserved-then-next-eq1
-loop-preserved-then-next-eq1 g c =
+pub loop-preserved-then-at-next : goal.loop-preserved-then-at-next
+loop-preserved-then-at-next g c =
     let M = g.T.Theory.meaning in
     let s = state c.args.tx.now in
     let t = state c.loop.tx in
@@ -126,14 +133,110 @@ loop-preserved-then-next-eq1 g c =
           c.in_ok-next.next c.in_ok-next.ensures.looked c.in_ok-next.ensures.given) in
           let a = unlinked_ok M g.T.Theory.lawful g.met.T.HasLists.has_lists u v c.args.head c.args.key c.in_ok-at-2.ensures.on i.visited c.loop.prev c.loop.at o.0.stands some c.in_ok-next.next o.0
           (odd_is_marked c.in_ok-next.next.value c.if-next-eq1.true) i.small c.if-next.kind
-          (elim c.if-next.branch [ then-next b ↦ inl b.if-next.true | else-next b ↦ inr b.kind-is ]) c.in_ok-at-2.at c.in_ok-at-2.ensures.gave ex in
+          (elim c.if-next.branch [ then-next b ↦ inl b.if-next.true | else-next b ↦ inr b.kind-is ]) c.in_ok-at-2.at c.in_ok-at-2.ensures.gave c.if-at-next.true ex in
           (a.0, a.1 ∙ o.1 ∙ (i.stands w).1);
       charges = charges_unlink M g.T.Theory.lawful g.met.T.HasLists.has_lists s c.args.head c.args.key u i.visited c.loop.prev c.loop.at c.in_ok-next.next on some
           (ap (λ x. x.reads) is.0 ∙ i.walked.reads) (ap (λ x. x.nodes) is.0 ∙ i.walked.nodes) (ap (λ x. shape_in x) is.0 ∙ shape_later s t i.walked.on.later) charged
           (c.in_ok-next.next.value - 1) c.if-next.kind (elim c.if-next.branch [ then-next w ↦ inl w.if-next.true | else-next w ↦ inr w.kind-is ]) v c.in_ok-at-2.at ex;
+      base = i.base;
+      returns = λ other w.
+          let e = still_other M u c.loop.prev c.loop.at (c.in_ok-next.next.value - 1) c.if-next.kind v c.in_ok-at-2.at c.in_ok-at-2.ensures.gave other ex in
+          returns_same M g.T.Theory.lawful g.met.T.HasLists.has_lists u v c.args.head c.args.key c.in_ok-at-2.ensures.on e.state_is w.certificates i.base c.loop.prev
+          (returns_same M g.T.Theory.lawful g.met.T.HasLists.has_lists t u c.args.head c.args.key c.in_ok-next.ensures.on is.0 w.certificates i.base c.loop.prev (i.returns (sym (ap (λ x. is_written (writes_in x) c.loop.prev) is.0) ∙ e.unwritten) w));
+      back = λ other.
+          let e = still_other M u c.loop.prev c.loop.at (c.in_ok-next.next.value - 1) c.if-next.kind v c.in_ok-at-2.at c.in_ok-at-2.ensures.gave other ex in
+          charges_pass M s c.args.head u i.base (charges_pass M s c.args.head t i.base (i.back (sym (ap (λ x. is_written (writes_in x) c.loop.prev) is.0) ∙ e.unwritten)) u is.0) v e.state_is;
+      few = i.few;
       turns = omega (arith, turns);
       small = omega arith;
     }
+
+pub loop-preserved-then-next-eq1 : goal.loop-preserved-then-next-eq1
+loop-preserved-then-next-eq1 g c =
+    let M = g.T.Theory.meaning in
+    let lawful = g.T.Theory.lawful in
+    let lists = g.met.T.HasLists.has_lists in
+    let s = state c.args.tx.now in
+    let t = state c.loop.tx in
+    let u = state c.load-in-loop.new.self in
+    let v = state c.exchange.new.self in
+    let i = c.loop.invariant in
+    let to = c.in_ok-next.next.value - 1 in
+    let seen = c.in_ok-at-2.at in
+    let is = looked_ok M t u c.node_next-next_word.result c.in_ok-next.next c.in_ok-next.ensures.looked in
+    let ex = exchanged_ok M u v c.loop.prev c.loop.at to c.if-next.kind seen c.in_ok-at-2.ensures.exchanged in
+    let e = (lost_so M u c.loop.prev c.loop.at to c.if-next.kind v seen c.if-at-next.false ex).0 in
+    let other : is_written (writes_in t) c.loop.prev ≡ false = sym (ap (λ x. is_written (writes_in x) c.loop.prev) is.0) ∙ e.unwritten in
+    let back = charges_pass M s c.args.head u i.base (charges_pass M s c.args.head t i.base (i.back other) u is.0) v e.state_is in
+    let turns = i.turns in
+    let most = few_visited M t c.args.head c.args.key i.visited c.loop.prev c.loop.at (i.stands c.requires.walking).0 in
+    let few = i.few in
+    let left = c.if-lost-eq-MOST_LOST.false in
+    record {
+      pass = c.in_ok-at-2.ensures.pass ∙ c.load-in-loop.ensures.pass ∙ i.pass;
+      walked = walked_exchange M s u v (walked_same M s t u i.walked c.in_ok-next.ensures.on is.0) c.in_ok-at-2.ensures.on c.loop.prev c.loop.at to c.if-next.kind seen ex;
+      unstopped = i.unstopped;
+      still = exchanged_stop M u v c.loop.prev c.loop.at to c.if-next.kind seen ex ∙ ap (λ x. x.stop) is.0 ∙ i.still;
+      visited = i.base;
+      stands = λ w. looked_back M lawful lists u v c.args.head c.args.key c.in_ok-at-2.ensures.on e.state_is w.certificates i.base c.loop.prev
+          (returns_same M lawful lists t u c.args.head c.args.key c.in_ok-next.ensures.on is.0 w.certificates i.base c.loop.prev (i.returns other w)) seen e.looks (even_is_unmarked seen.value c.if-at-eq1.false);
+      charges = back;
+      base = i.base;
+      returns = λ _ w. returns_same M lawful lists u v c.args.head c.args.key c.in_ok-at-2.ensures.on e.state_is w.certificates i.base c.loop.prev
+          (returns_same M lawful lists t u c.args.head c.args.key c.in_ok-next.ensures.on is.0 w.certificates i.base c.loop.prev (i.returns other w));
+      back = λ _. back;
+      few = omega (arith, few, left);
+      turns = omega (arith, turns, most);
+      small = omega arith;
+    }
+
+pub give_up-requires-clause-going : goal.give_up-requires-clause-going
+give_up-requires-clause-going g c =
+    let w = c.requires.walking in
+    (w.certificates, c.in_ok-at-2.ensures.on.going w.certificates (c.in_ok-next.ensures.on.going w.certificates (c.loop.invariant.walked.on.going w.certificates w.going)))
+
+pub give_up-requires-clause-overtaken : goal.give_up-requires-clause-overtaken
+give_up-requires-clause-overtaken g c =
+    let M = g.T.Theory.meaning in
+    let u = state c.load-in-loop.new.self in
+    let v = state c.exchange.new.self in
+    let to = c.in_ok-next.next.value - 1 in
+    let ex = exchanged_ok M u v c.loop.prev c.loop.at to c.if-next.kind c.in_ok-at-2.at c.in_ok-at-2.ensures.exchanged in
+    (lost_so M u c.loop.prev c.loop.at to c.if-next.kind v c.in_ok-at-2.at c.if-at-next.false ex).1
+
+pub returns-then-lost-eq-MOST_LOST-clause-pass : goal.returns-then-lost-eq-MOST_LOST-clause-pass
+returns-then-lost-eq-MOST_LOST-clause-pass g c = c.give_up.ensures.pass ∙ c.in_ok-at-2.ensures.pass ∙ c.load-in-loop.ensures.pass ∙ c.loop.invariant.pass
+
+pub returns-then-lost-eq-MOST_LOST-clause-leaves : goal.returns-then-lost-eq-MOST_LOST-clause-leaves
+returns-then-lost-eq-MOST_LOST-clause-leaves g c =
+    let M = g.T.Theory.meaning in
+    let s = state c.args.tx.now in
+    let t = state c.loop.tx in
+    let u = state c.load-in-loop.new.self in
+    let v = state c.exchange.new.self in
+    let x = state c.give_up.new.self in
+    let i = c.loop.invariant in
+    let to = c.in_ok-next.next.value - 1 in
+    let is = looked_ok M t u c.node_next-next_word.result c.in_ok-next.next c.in_ok-next.ensures.looked in
+    let ex = exchanged_ok M u v c.loop.prev c.loop.at to c.if-next.kind c.in_ok-at-2.at c.in_ok-at-2.ensures.exchanged in
+    let e = (lost_so M u c.loop.prev c.loop.at to c.if-next.kind v c.in_ok-at-2.at c.if-at-next.false ex).0 in
+    stop_leaves M s v x c.give_up.result
+    (walk_leaves M s v (walked_exchange M s u v (walked_same M s t u i.walked c.in_ok-next.ensures.on is.0) c.in_ok-at-2.ensures.on c.loop.prev c.loop.at to c.if-next.kind c.in_ok-at-2.at ex)
+    (few_after s t v 0 (ap (λ y. y.slots) e.state_is ∙ ap (λ y. y.slots) is.0) (few_written M s c.args.head t i.visited i.charges)))
+    c.give_up.ensures.on (given_up v x c.give_up.result c.give_up.ensures.kept)
+
+pub returns-then-lost-eq-MOST_LOST-clause-found : goal.returns-then-lost-eq-MOST_LOST-clause-found
+returns-then-lost-eq-MOST_LOST-clause-found g c = tt
+
+pub returns-then-lost-eq-MOST_LOST-clause-stops : goal.returns-then-lost-eq-MOST_LOST-clause-stops
+returns-then-lost-eq-MOST_LOST-clause-stops g c = none_stood Found (state c.args.tx.now) (state c.give_up.new.self) _ _ c.loop.invariant.unstopped
+    (ap (λ x. x.stop) c.give_up.ensures.kept, no_conflict c.give_up.result _ c.give_up.ensures.stop)
+
+pub returns-then-lost-eq-MOST_LOST-clause-no_read : goal.returns-then-lost-eq-MOST_LOST-clause-no_read
+returns-then-lost-eq-MOST_LOST-clause-no_read g c none is = conflict_unlimited Found c.give_up.result _ c.give_up.ensures.stop Reads is
+
+pub returns-then-lost-eq-MOST_LOST-clause-no_slot : goal.returns-then-lost-eq-MOST_LOST-clause-no_slot
+returns-then-lost-eq-MOST_LOST-clause-no_slot g c none is = conflict_unlimited Found c.give_up.result _ c.give_up.ensures.stop Writes is
 
 pub node_key-key_word-requires : goal.node_key-key_word-requires
 node_key-key_word-requires g c =
@@ -214,6 +317,20 @@ loop-preserved g c =
           (is_next ∙ ap (λ x. next_word (shape_in x) (linked_node c.loop.at.value)) (sym is.0) ∙ ap (λ x. next_word (shape_in x) (linked_node c.loop.at.value)) (sym c.field_of-node_key.ensures.same)) in
           (a.0, a.1 ∙ o.1 ∙ (i.stands w).1);
       charges = charges_more M s c.args.head v i.visited (linked_node c.loop.at.value) (charges_pass M s c.args.head u i.visited (charges_pass M s c.args.head t i.visited i.charges u is.0) v c.field_of-node_key.ensures.same);
+      base = linked_node c.loop.at.value ∷ i.visited;
+      returns = λ _ w.
+          let o = (next_looked M g.T.Theory.lawful g.met.T.HasLists.has_lists t u c.args.head c.args.key c.in_ok-next.ensures.on i.visited c.loop.prev c.loop.at (i.stands w).0 some c.node_next-next_word.result
+          (next_is (shape_in t) c.shape.result.now c.loop.at.value c.node_next-next_word.result c.node_next-next_word.ensures.place c.shape.ensures)
+          c.in_ok-next.next c.in_ok-next.ensures.looked c.in_ok-next.ensures.given) in
+          let r = key_returns M g.T.Theory.lawful g.met.T.HasLists.has_lists u v c.args.head c.args.key i.visited c.loop.prev c.loop.at c.in_ok-next.next o.0 some
+          (even_is_unmarked c.in_ok-next.next.value c.if-next-eq1.false) c.field_of-node_key.ensures.on c.field_of-node_key.ensures.same c.field_of-node_key.ensures.given
+          c.node_key-key_word.result
+          (key_is (shape_in u) c.shape-in-loop.result.now c.loop.at.value c.node_key-key_word.result c.node_key-key_word.ensures.place c.shape-in-loop.ensures)
+          c.field_of-node_key.result c.field_of-node_key.ensures.known (omega arith) c.node_next-next_word.result
+          (is_next ∙ ap (λ x. next_word (shape_in x) (linked_node c.loop.at.value)) (sym is.0) ∙ ap (λ x. next_word (shape_in x) (linked_node c.loop.at.value)) (sym c.field_of-node_key.ensures.same)) in
+          (r.0, r.1 ∙ o.1 ∙ (i.stands w).1);
+      back = λ _. charges_more M s c.args.head v i.visited (linked_node c.loop.at.value) (charges_pass M s c.args.head u i.visited (charges_pass M s c.args.head t i.visited i.charges u is.0) v c.field_of-node_key.ensures.same);
+      few = i.few;
       turns = omega (arith, turns);
       small = omega arith;
     }
@@ -226,7 +343,8 @@ returns-after-loop-clause-found g c =
     let i = c.loop.invariant in
     let few = few_visited g.T.Theory.meaning (state c.loop.tx) c.args.head c.args.key i.visited c.loop.prev c.loop.at (i.stands c.requires.walking).0 in
     let turns = i.turns in
-    absurd (omega (arith, few, turns))
+    let lost = i.few in
+    absurd (omega (arith, few, turns, lost))
 
 pub returns-then-node-eq0-clause-pass : goal.returns-then-node-eq0-clause-pass
 returns-then-node-eq0-clause-pass g c = c.loop.invariant.pass

@@ -1,5 +1,12 @@
 use Rattle.std.proofs.Common.{◌/◌, ◌+◌, length, ap, sym, subst, arith, ◌∙◌}
-use Rattle.md_words.specs.Layout.{IsNode}
+use Rattle.md_words.specs.declared.shape.Shape.{Shape}
+use Rattle.md_words.specs.Layout.{IsNode, address}
+use Rattle.md_words.specs.Place.{queue_tail}
+use Rattle.md_nbtc_law.specs.Calls.{IsOvertaken}
+use Rattle.md_nbtc_law.proofs.looks.Overtaken.{overtaken_later}
+use Rattle.md_nbtc_law.proofs.structures.Exchanging.{lost_so}
+use Rattle.md_nbtc_law.proofs.structures.NodesKnown.{shape_later}
+use Rattle.md_queue.specs.Parts.{rank_after}
 use Rattle.md_nbtc_law.specs.Seeing.{KeepsGiven, Looks}
 use Rattle.md_nbtc_law.specs.State.{shape_in}
 use Rattle.md_nbtc.specs.State.{state}
@@ -124,9 +131,23 @@ returns-clause-follows g c = record {
       let ex = exchange_ok M t u on (tail_at t c.args.queue) end.tail end.next.value (move_kind end.next) tail c.in_ok-tail.ensures.exchanged in
       let f = followed M g.T.Theory.lawful g.met.T.HasQueues.has_queues t c.args.queue cs end.tail end.next least s c.requires.some u on (omega arith) tail c.in_ok-tail.ensures.gave ex in
       let is = look_ok M u v c.in_ok-next.ensures.on (next_at u (tail.value / 2)) next c.in_ok-next.ensures.looked in
-      end_seen M g.T.Theory.lawful g.met.T.HasQueues.has_queues u v c.args.queue cs c.in_ok-next.ensures.on is.0 tail next (least + 1) f
+      end_seen M g.T.Theory.lawful g.met.T.HasQueues.has_queues u v c.args.queue cs c.in_ok-next.ensures.on is.0 tail next (rank_after end.next tail least) f
       (subst (λ n. KeepsGiven u v (next_at u n)) (half_is tail.value) c.in_ok-next.ensures.given)
       (subst (λ n. Looks M u v (next_at u n) next) (half_is tail.value) is.1)
+      );
+  lost = (
+      λ other. let M = g.T.Theory.meaning in
+      let t = state c.args.tx.now in
+      let u = state c.move_tail.new.tx in
+      let v = state c.load_next.new.tx in
+      let end = c.args.end in
+      let tail = c.in_ok-tail.tail in
+      let on = c.in_ok-tail.ensures.on in
+      let over = c.in_ok-next.ensures.on in
+      let going = on.going c.requires.sees.0 c.requires.sees.2.sees_tail.working.going in
+      let ex = exchange_ok M t u on (tail_at t c.args.queue) end.tail end.next.value (move_kind end.next) tail c.in_ok-tail.ensures.exchanged in
+      subst (λ (s : Shape). IsOvertaken v (address s (queue_tail c.args.queue)) end.tail tail) (sym (shape_later u v over.later ∙ shape_later t u on.later))
+      (overtaken_later u v going.prepared over.later (tail_at t c.args.queue) end.tail tail (lost_so M t (tail_at t c.args.queue) end.tail end.next.value (move_kind end.next) u tail other ex).1)
       );
 }
 

@@ -9,11 +9,14 @@ use Rattle.md_rule.specs.InHand.{HoldsDesc}
 use Rattle.md_rule.specs.Views.{PassState}
 use Rattle.md_help.specs.Clears.{Clears}
 use Rattle.md_nbtc_law.specs.Calls.{GoesOn}
+use Rattle.md_nbtc_law.specs.declared.seen.Seen.{Seen}
+use Rattle.md_nbtc_law.specs.Going.{HasCause}
 use Rattle.md_nbtc_law.specs.Seeing.{Gave, Looks}
-use Rattle.md_nbtc_law.specs.State.{TxnState, content_there, shape_in}
+use Rattle.md_nbtc_law.specs.State.{TxnState, content_there, seen_content, shape_in}
 use Rattle.md_nbtc_law.proofs.looks.Awaited.{cleared, cleared_cause, cleared_goes, cleared_is, cleared_keeps, cleared_looks, cleared_quiet, desc_met, desc_there, even_looks, found_even, found_odd, holds, looked, looked_given, looked_is, looked_on, not_held, seen_is}
 use Rattle.md_nbtc_law.proofs.looks.Causes.{whole}
 use Rattle.md_nbtc_law.proofs.looks.Looking.{looks_cleared, looks_even}
+use Rattle.md_nbtc_law.proofs.looks.Overtaken.{cleared_overtaken, found_overtaken}
 use Rattle.md_nbtc_law.proofs.looks.OwnSlots.{slot_none}
 use Rattle.md_nbtc_law.proofs.looks.Stopped.{stopped_gave, stopped_on}
 use Rattle.md_nbtc.specs.State.{state}
@@ -265,3 +268,47 @@ returns-clause-given g c other seen differ gave =
     let shown : Shown = record { word = word; was = was; now = result.left } in
     subst (λ (v : TxnState). Gave (record v { stop = Some (Conflict shown) }) other seen) (sym is)
     (stopped_gave (cleared M lawful t c.requires.going q.view word was l c.requires.counted none odd r.view result clears stands) (Conflict shown) other seen (cleared_keeps M lawful t c.requires.going q.view word was l c.requires.counted none odd r.view result clears stands other seen differ gave))
+
+pub returns-then-is_none-clause-overtaken : goal.returns-then-is_none-clause-overtaken
+returns-then-is_none-clause-overtaken g c was overtaken =
+    let M = g.T.Theory.meaning in
+    let lawful = g.T.Theory.lawful in
+    let x = c.args.self.now in
+    let t = state x in
+    let word = c.args.word in
+    let found = c.look_at-was.result in
+    let q = c.look_at-was.new.pass in
+    let l = c.look_at-was.ensures.looks in
+    let none = slot_none t.slots word c.requires.none in
+    let seen = seen_is found c.of-found.result c.seen_of.result c.of-found.ensures.parts c.seen_of.ensures in
+    let is = looked_is x.field.now x.pass.now x.began.value x.sets.now.reads x.sets.now.slots x.stop x.desc x.serial x.tag x.sets.now.lots M word found q c.look_at-was.ensures.same l in
+    let cause = found_overtaken M lawful t c.requires.going q.view word found l c.requires.counted none was overtaken in
+    let u = looked M lawful t c.requires.going q.view word found l c.requires.counted none in
+    subst (λ v. HasCause v (Conflict (record { word = word; was = was; now = seen_content c.seen_of.result }))) (sym (is ∙ ap (λ p. record t { pass = p }) c.look_at-was.ensures.same))
+    (subst (λ (s : Seen). HasCause u (Conflict (record { word = word; was = was; now = seen_content s }))) seen
+    (subst (λ n. HasCause u (Conflict (record { word = word; was = was; now = n }))) (sym (whole found)) cause))
+
+pub returns-then-is_none-2-clause-overtaken : goal.returns-then-is_none-2-clause-overtaken
+returns-then-is_none-2-clause-overtaken g c first overtaken =
+    let M = g.T.Theory.meaning in
+    let lawful = g.T.Theory.lawful in
+    let x = c.args.self.now in
+    let t = state x in
+    let word = c.args.word in
+    let was = c.look_at-was.result in
+    let q = c.look_at-was.new.pass in
+    let l = c.look_at-was.ensures.looks in
+    let r = c.clear-now.new.pass in
+    let result = c.clear-now.result in
+    let none = slot_none t.slots word c.requires.none in
+    let odd = found_odd was c.of-found.result c.stands.result c.is_none.result c.of-found.ensures.parts c.stands.ensures.spot c.is_none.ensures c.if-is_none.false in
+    let clears = subst (λ w. Clears (shape_in t) word w result q.view r.view) c.of-found.ensures.inverse c.clear-now.ensures.clears in
+    let stands = c.clear-now.ensures.stands in
+    let quiet = cleared_quiet M lawful t c.requires.going q.view word was l c.requires.counted none odd r.view result clears stands in
+    let is = cleared_is x.field.now x.pass.now x.began.value x.sets.now.reads x.sets.now.slots x.stop x.desc x.serial x.tag x.sets.now.lots M word was q r c.look_at-was.ensures.same l c.clear-now.ensures.same (clears.ask ∷ clears.look ∷ clears.steps) clears.goes quiet in
+    let seen = seen_is result.left c.of-left.result c.seen_of-then-is_none-2.result c.of-left.ensures.parts c.seen_of-then-is_none-2.ensures in
+    let cause = cleared_overtaken M lawful t c.requires.going q.view word was l c.requires.counted none first overtaken odd r.view result clears stands in
+    let u = cleared M lawful t c.requires.going q.view word was l c.requires.counted none odd r.view result clears stands in
+    subst (λ v. HasCause v (Conflict (record { word = word; was = first; now = seen_content c.seen_of-then-is_none-2.result }))) (sym is)
+    (subst (λ (s : Seen). HasCause u (Conflict (record { word = word; was = first; now = seen_content s }))) seen
+    (subst (λ n. HasCause u (Conflict (record { word = word; was = first; now = n }))) (sym (whole result.left)) cause))
